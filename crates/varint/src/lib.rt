@@ -1,5 +1,6 @@
 // Numbers, texts and lent buffers of the fjord session wire.
 pub mod error;
+pub mod store;
 
 ghost use mathlib.Core.Path.{_≡_};
 
