@@ -1,3 +1,12 @@
 pub mod Basics
+pub mod Bits64
 pub mod Clearing
+pub mod FixedLaws
+pub mod OutLaws
+pub mod PutLaws
+pub mod ReadLaws
 pub mod StoreLaws
+pub mod Utf8Grammar
+pub mod Utf8Laws
+pub mod VarintLaws
+pub mod ZigzagLaws

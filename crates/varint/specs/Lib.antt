@@ -1,3 +1,12 @@
 pub mod Choice
+pub mod Fixed
+pub mod Formats
+pub mod Leb128
+pub mod Outs
 pub mod Refusals
+pub mod RoundTrips
 pub mod Stores
+pub mod Texts
+pub mod Utf8
+pub mod Utf8Steps
+pub mod Zigzag

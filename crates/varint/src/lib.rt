@@ -1,12 +1,131 @@
-// Numbers, texts and lent buffers of the fjord session wire.
+// Numbers on the wire (varint.rs): LEB128, seven bits a byte, least first, one encoding a number.
+//
+// A reader takes a slice and a place in it; a place at or past the end reads as no bytes left. It answers the value with the place after it,
+// or the refusal. A writer at a place stores what lies inside the buffer and nothing past its end.
 pub mod error;
+pub mod fixed;
+pub mod signed;
 pub mod store;
+pub mod text;
+pub mod utf8;
 
 ghost use mathlib.Core.Path.{_≡_};
+ghost use lib.ListN.{length};
+ghost use lib.Seq.{sets};
+ghost use Rattle.varint.specs.Leb128.{getU64, putU64};
+ghost use Rattle.varint.specs.Stores.{filled};
+ghost use Rattle.varint.specs.Outs.{wrote};
+use error::Buffer;
+use error::Refusal;
+use store::clear_bytes;
+use store::store_byte;
+
+// The most bytes that a varint has.
+pub const MAX_LEN: usize = 10;
+
+pub enum ReadU64 {
+    Value { value: u64, next: usize },
+    Refused(Refusal),
+}
+
+// What a writer of a whole buffer answers.
+pub enum Written {
+    Wrote { len: usize },
+    Refused(Refusal),
+}
 
 // A byte as a number, under a name that proofs can cite.
 pub(crate) fn wide(b: u8) -> u64
     ensures { λ r. ⌜ r ≡ b ⌝ }
 {
     b as u64
+}
+
+// The varint at place `at` of `s`.
+pub fn get_u64(s: &[u8], at: usize) -> ReadU64
+    ensures { λ r. ⌜ r ≡ getU64 (now (s .entry)) at ⌝ }
+{
+    let mut value: u64 = 0;
+    let mut unit: u64 = 1;
+    let mut i: u64 = 0;
+    let mut p = at;
+    while p < s.len() {
+        let b = wide(s[p]);
+        if i == 9 {
+            // The tenth byte has room for one bit.
+            if b == 0 {
+                return ReadU64::Refused(Refusal::VarintNotMinimal);
+            }
+            if b == 1 {
+                return ReadU64::Value {
+                    value: value + unit,
+                    next: p + 1,
+                };
+            }
+            return ReadU64::Refused(Refusal::VarintOverflow);
+        }
+        if b < 128 {
+            if b == 0 {
+                if 0 < i {
+                    return ReadU64::Refused(Refusal::VarintNotMinimal);
+                }
+            }
+            return ReadU64::Value {
+                value: value + b * unit,
+                next: p + 1,
+            };
+        }
+        value = value + (b - 128) * unit;
+        unit = unit * 128;
+        i += 1;
+        p += 1;
+    }
+    ReadU64::Refused(Refusal::UnexpectedEof)
+}
+
+// How many bytes the varint of `value` has.
+pub fn len_u64(value: u64) -> usize
+    ensures { λ r. ⌜ r ≡ length (putU64 value) ⌝ }
+{
+    let mut v = value;
+    let mut n: usize = 1;
+    while 128 <= v {
+        v = v / 128;
+        n += 1;
+    }
+    n
+}
+
+// Stores the varint of `value` from place `at` on, as far as `out` goes, and returns how many bytes it has.
+pub fn put_u64(out: &mut [u8], at: usize, value: u64) -> usize
+    ensures { λ r. ⌜ (r ≡ length (putU64 value)) × (now (out .exit) ≡ sets (now (out .entry)) at (putU64 value)) ⌝ }
+{
+    if out.len() <= at {
+        return len_u64(value);
+    }
+    let mut v = value;
+    let mut p = at;
+    while 128 <= v {
+        store_byte(out, p, (v % 128 + 128) as u8);
+        v = v / 128;
+        p += 1;
+    }
+    store_byte(out, p, v as u8);
+    p + 1 - at
+}
+
+// The varint of `value` alone in `out`, and zeros after it; or a refusal, and nothing is written.
+pub fn encode_u64(out: &mut [u8], value: u64) -> Written
+    ensures { λ r. ⌜ (r ≡ wrote (now (out .entry)) (putU64 value)) × (now (out .exit) ≡ filled (now (out .entry)) (putU64 value)) ⌝ }
+{
+    let len = len_u64(value);
+    if out.len() < len {
+        return Written::Refused(Refusal::TooSmall {
+            which: Buffer::Out,
+            needed: len as u64,
+        });
+    }
+    put_u64(out, 0, value);
+    clear_bytes(out, len);
+    Written::Wrote { len }
 }

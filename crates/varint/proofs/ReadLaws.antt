@@ -1,0 +1,101 @@
+-- Laws of reading a varint: a byte of each kind, sizes, and where a varint ends.
+use mathlib.Core.Bool.{_&&_, and-false}
+use mathlib.Core.Logic.{⊎-elim}
+use mathlib.Core.Path.{_≡_}
+use mathlib.Core.List.{List, [], _∷_}
+use Prim.Native.Nat.{ℕ, suc, _+_, _-_, _*_, _%_, _^_, _≤_, _<_}
+use native.Mathlib.Nat.{pow-le-pow-right, pow-suc, suc-mul, mul-le-mul-right}
+use native.Mathlib.Numerals.{add-one}
+use native.Mathlib.Omega.{arith}
+use lib.Dec.{ltb, eqb, lit<}
+use lib.ListN.{length, getD, drop, drop-of-length-le, length-drop}
+use lib.Seq.{drop-cons}
+use borrow.Author.Tests.{lt-ltb, le-ltb, ne-eqb}
+use Rattle.varint.specs.Leb128.{readFrom, getU64}
+use Rattle.varint.specs.declared.error.Refusal.the-variants.{UnexpectedEof, VarintOverflow, VarintNotMinimal}
+use Rattle.varint.specs.declared.ReadU64.{ReadU64}
+use Rattle.varint.specs.declared.ReadU64.the-variants.{Value, Refused}
+use Rattle.varint.proofs.Basics.{pick-same, pick-both, below}
+
+-- A byte of each kind, as one equation each: what a proof of the reader cites.
+module _ (b : ℕ) (s : List ℕ) (p i v : ℕ) where
+  -- the tenth byte
+  pub tenth-zero : b ≡ 0 → i ≡ 9 → readFrom (b ∷ s) p i v ≡ Refused VarintNotMinimal
+  unfolding readFrom
+  tenth-zero hb hi = rw (hb, hi)
+
+  pub tenth-one : b ≡ 1 → i ≡ 9 → readFrom (b ∷ s) p i v ≡ Value (v + 128 ^ i) (p + 1)
+  unfolding readFrom
+  tenth-one hb hi = rw (hb, hi)
+
+  pub tenth-more : b < 256 → 1 < b → i ≡ 9 → readFrom (b ∷ s) p i v ≡ Refused VarintOverflow
+  unfolding readFrom
+  tenth-more h hb hi =
+      rw hi
+      (⊎-elim
+      (λ (l : b < 128). simp (lt-ltb 1 (b % 128) (omega arith)))
+      (λ (l : 128 ≤ b). simp (le-ltb b 128 l, pick-same))
+      (below b 128))
+
+  -- a byte before the tenth
+  pub last-zero : b ≡ 0 → 0 < i → i < 9 → readFrom (b ∷ s) p i v ≡ Refused VarintNotMinimal
+  unfolding readFrom
+  last-zero hb hi h9 = rw hb (simp (ne-eqb i 9 (omega arith), lt-ltb 0 i hi))
+
+  pub last-first : i ≡ 0 → b < 128 → readFrom (b ∷ s) p i v ≡ Value (v + b * 128 ^ i) (p + 1)
+  unfolding readFrom
+  last-first hi hb = rw hi (simp (lt-ltb b 128 hb))
+
+  pub last-more : b < 128 → 0 < b → i < 9 → readFrom (b ∷ s) p i v ≡ Value (v + b * 128 ^ i) (p + 1)
+  unfolding readFrom
+  last-more hb h0 h9 = simp (ne-eqb i 9 (omega arith), lt-ltb b 128 hb, ne-eqb b 0 (omega arith), and-false)
+
+  pub more : 128 ≤ b → i < 9 → readFrom (b ∷ s) p i v ≡ readFrom s (p + 1) (i + 1) (v + b % 128 * 128 ^ i)
+  unfolding readFrom
+  more hb h9 = simp (ne-eqb i 9 (omega arith), le-ltb b 128 hb)
+
+-- the byte at place p is read first
+pub read-at : (s : List ℕ) (p i v : ℕ) → p < length s → readFrom (drop p s) p i v ≡ readFrom (getD s p 0 ∷ drop (p + 1) s) p i v
+read-at s p i v h = rw (add-one, drop-cons s p 0)
+
+pub read-end : (s : List ℕ) (p i v : ℕ) → length s ≤ p → readFrom (drop p s) p i v ≡ Refused UnexpectedEof
+unfolding readFrom
+read-end s p i v h = rw (drop-of-length-le s h)
+
+-- sizes: the weight of a byte before the tenth and of the tenth, and a payload at a weight
+pub weight-9 : {i u : ℕ} → i ≤ 9 → u ≡ 128 ^ i → u ≤ 9223372036854775808
+weight-9 h e = rw e (pow-le-pow-right {n = 128} (lit< tt) h)
+
+pub weight-8 : {i u : ℕ} → i ≤ 8 → u ≡ 128 ^ i → u ≤ 72057594037927936
+weight-8 h e = rw e (pow-le-pow-right {n = 128} (lit< tt) h)
+
+pub payload : {b : ℕ} (u : ℕ) → b < 128 → b * u + u ≤ 128 * u
+payload {b} u h = rw (← suc-mul b u) (mul-le-mul-right u h)
+
+pub next-weight : (i : ℕ) {u : ℕ} → u ≡ 128 ^ i → u * 128 ≡ 128 ^ (i + 1)
+next-weight i e = rw (add-one, pow-suc, e)
+
+-- where a varint ends: past the place lo, and at most at hi
+abbrev pub Ends : ℕ → ℕ → ReadU64 → Type 0
+Ends lo hi (Value n next) = (lo < next) × (next ≤ hi)
+Ends lo hi (Refused r) = Unit
+
+read-ends : (x : List ℕ) (p lo i v : ℕ) → lo ≤ p → Ends lo (p + length x) (readFrom x p i v)
+unfolding readFrom
+read-ends [] p lo i v h = tt
+read-ends (b ∷ s) p lo i v h =
+    let P : ReadU64 → Type 0 = Ends lo (p + suc (length s)) in
+    let e : p + 1 + length s ≡ p + suc (length s) = omega arith in
+    let ih : P (readFrom s (p + 1) (i + 1) (v + b % 128 * 128 ^ i)) = rw e at (read-ends s (p + 1) lo (i + 1) (v + b % 128 * 128 ^ i) (omega arith)) in
+    pick-both P (eqb i 9 && ltb 1 (b % 128)) tt
+    (pick-both P (ltb b 128) (pick-both P (ltb 0 i && eqb b 0) tt (omega arith, omega arith)) (pick-both P (eqb i 9) tt ih))
+
+pub get-ends : (s : List ℕ) (at : ℕ) → Ends at (length s) (getU64 s at)
+unfolding getU64 readFrom
+get-ends s at =
+    ⊎-elim
+    (λ (h : at < length s).
+    let e : at + length (drop at s) ≡ length s = rw length-drop (omega arith) in
+    rw e at (read-ends (drop at s) at at 0 0 (omega arith)))
+    (λ (h : length s ≤ at). rw (drop-of-length-le s h) tt)
+    (below at (length s))
