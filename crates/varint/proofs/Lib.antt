@@ -1,7 +1,13 @@
 pub mod Basics
 pub mod Bits64
+pub mod BytesToTry
 pub mod Clearing
 pub mod FixedLaws
+pub mod FormatBack
+pub mod FormatEnds
+pub mod FormatForth
+pub mod FormatGives
+pub mod FormatParts
 pub mod OutLaws
 pub mod PutLaws
 pub mod ReadLaws

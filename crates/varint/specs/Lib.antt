@@ -7,6 +7,7 @@ pub mod Refusals
 pub mod RoundTrips
 pub mod Stores
 pub mod Texts
+pub mod Tried
 pub mod Utf8
 pub mod Utf8Steps
 pub mod Zigzag
