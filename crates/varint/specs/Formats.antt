@@ -1,13 +1,16 @@
 -- Formats: how a thing is read from bytes at a place, and how it is printed. A message's layout is one format, a line a field,
 -- and says both directions at once.
+use mathlib.Core.Path.{_≡_, refl}
 use mathlib.Core.List.{List, [], _∷_, _++_}
 use Prim.Native.Nat.{ℕ, zero, suc}
 use lib.ListN.{length}
-use Rattle.varint.specs.Fixed.{getLe, putLe}
-use Rattle.varint.specs.Leb128.{getU64, putU64}
+use Rattle.varint.specs.Fixed.{le, getLe, putLe}
+use Rattle.varint.specs.Leb128.{readFrom, getU64, putBy, putU64}
 use Rattle.varint.specs.Stores.{part}
-use Rattle.varint.specs.Texts.{getText, getName}
+use Rattle.varint.specs.Texts.{textOf, getText, getName}
+use Rattle.varint.specs.Utf8.{utf8, scan, lead}
 use Rattle.varint.specs.declared.error.Refusal.{Refusal}
+use Rattle.varint.specs.declared.error.Refusal.the-variants.{LengthOutOfRange}
 use Rattle.varint.specs.declared.ReadU64.{ReadU64}
 use Rattle.varint.specs.declared.ReadU64.the-variants.{Value, Refused as NoValue}
 use Rattle.varint.specs.declared.text.ReadText.{ReadText}
@@ -84,3 +87,20 @@ counted f =
       read = λ s at. then (gotNumber (getU64 s at)) (λ n p. readTimes f n s p);
       print = λ l. putU64 (length l) ++ printAll f l;
     }
+
+-- a number, a field of two bytes, and a list of names
+abbrev example : Format (ℕ × (ℕ × List (List ℕ)))
+example = varint ⊗ fixed 2 ⊗ counted name
+
+example-printed : example .print (300, (258, (0x68 ∷ 0x69 ∷ []) ∷ [] ∷ [])) ≡ 0xAC ∷ 0x02 ∷ 0x02 ∷ 0x01 ∷ 0x02 ∷ 0x02 ∷ 0x68 ∷ 0x69 ∷ 0x00 ∷ []
+unfolding putU64 putBy putLe printAll
+example-printed = refl
+
+example-read : example .read (0xAC ∷ 0x02 ∷ 0x02 ∷ 0x01 ∷ 0x02 ∷ 0x02 ∷ 0x68 ∷ 0x69 ∷ 0x00 ∷ []) 0 ≡ got (300, (258, (0x68 ∷ 0x69 ∷ []) ∷ [] ∷ [])) 9
+unfolding getU64 readFrom getLe le readTimes getName getText textOf utf8 scan lead part
+example-read = refl
+
+-- the second name has five bytes to come, and only one is there
+example-refused : example .read (0xAC ∷ 0x02 ∷ 0x02 ∷ 0x01 ∷ 0x02 ∷ 0x00 ∷ 0x05 ∷ 0x68 ∷ []) 0 ≡ bad (LengthOutOfRange 5 1)
+unfolding getU64 readFrom getLe le readTimes getName getText textOf utf8 scan lead part
+example-refused = refl

@@ -17,3 +17,11 @@ wrote d x = pick (ltb (length d) (length x)) (Refused (TooSmall Out (length x)))
 example-short : wrote (9 ∷ []) (1 ∷ 2 ∷ []) ≡ Refused (TooSmall Out 2)
 unfolding wrote
 example-short = refl
+
+example-exact : wrote (9 ∷ 9 ∷ []) (1 ∷ 2 ∷ []) ≡ Wrote 2
+unfolding wrote
+example-exact = refl
+
+example-long : wrote (9 ∷ 9 ∷ 9 ∷ []) (1 ∷ 2 ∷ []) ≡ Wrote 2
+unfolding wrote
+example-long = refl

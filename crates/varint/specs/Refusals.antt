@@ -1,4 +1,5 @@
 -- "A refusal is a number with details a, b (0 where not given)": the number and the details of each case.
+use mathlib.Core.Path.{_≡_, refl}
 use Prim.Native.Nat.{ℕ}
 use Rattle.varint.specs.declared.error.Code.{Code}
 use Rattle.varint.specs.declared.error.Mismatch.{Mismatch}
@@ -57,3 +58,12 @@ codeOf (TooSmall which needed) = record { number = 16; a = bufferNumber which; b
 codeOf BadReceiver = record { number = 17; a = 0; b = 0 }
 codeOf (BadKindTable n) = record { number = 18; a = n; b = 0 }
 codeOf (BadMessage fault) = record { number = 19; a = faultNumber fault; b = 0 }
+
+example-length : codeOf (LengthOutOfRange 5 3) ≡ record { number = 5; a = 5; b = 3 }
+example-length = refl
+
+example-version : codeOf (TypeMismatch Version) ≡ record { number = 9; a = 2; b = 0 }
+example-version = refl
+
+example-hold : codeOf (TooSmall Hold 70000) ≡ record { number = 16; a = 4; b = 70000 }
+example-hold = refl

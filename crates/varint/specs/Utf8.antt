@@ -4,7 +4,7 @@ use mathlib.Core.Bool.{Bool, true, false, _&&_}
 use mathlib.Core.Path.{_≡_, refl}
 use mathlib.Core.List.{List, [], _∷_, _++_}
 use Prim.Native.Nat.{ℕ, _+_, _≤_}
-use lib.Dec.{leb}
+use lib.Dec.{leb, lit≤}
 use lib.ListN.{length}
 use Rattle.varint.specs.Choice.{pick}
 use Rattle.varint.specs.Stores.{part}
@@ -91,6 +91,10 @@ utf8 s = scan [] s
 -- there are n bytes of s from place `from` on, and they are UTF-8
 unfoldable pub utf8At : List ℕ → ℕ → ℕ → Bool
 utf8At s from n = leb (from + n) (length s) && utf8 (part s from n)
+
+-- the grammar derives "é"
+example-derived : Utf8Octets (0xC3 ∷ 0xA9 ∷ [])
+example-derived = char (utf8-2 (lit≤ tt, lit≤ tt) (lit≤ tt, lit≤ tt)) none
 
 -- RFC 3629, section 7: "A<NOT IDENTICAL TO><ALPHA>."
 example-rfc : utf8 (0x41 ∷ 0xE2 ∷ 0x89 ∷ 0xA2 ∷ 0xCE ∷ 0x91 ∷ 0x2E ∷ []) ≡ true
