@@ -1,14 +1,19 @@
 -- Zigzag is a bijection between the signed and the unsigned numbers of 64 bits.
 use mathlib.Core.Path.{_≡_, _∙_, ap}
 use mathlib.Core.Logic.{⊎-elim}
+use mathlib.Core.List.{List, _++_}
 use Prim.Native.Nat.{ℕ, _+_, _*_, _/_, _%_, _^_, _<_}
 use native.Mathlib.Nat.{eq-zero-or-pos}
 use native.Mathlib.Omega.{arith}
+use lib.ListN.{length}
 use lib.IntN.{ℤ, pos, negsuc}
 use mir.Syntax.{w64}
 use mir.Val.{SFits}
 use borrow.Author.Tests.{ne-eqb}
-use Rattle.varint.specs.Zigzag.{zig, unzig}
+use Rattle.varint.specs.Leb128.{putU64}
+use Rattle.varint.specs.Zigzag.{zig, unzig, getI64}
+use Rattle.varint.specs.declared.signed.ReadI64.the-variants.{Value}
+use Rattle.varint.proofs.VarintLaws.{get-put}
 
 pub unzig-even : (u : ℕ) → u % 2 ≡ 0 → unzig u ≡ pos (u / 2)
 unfolding unzig
@@ -44,3 +49,8 @@ unzig-fits u h =
     (λ (e : u % 2 ≡ 0). rw (unzig-even u e) (record { sfits = omega arith }))
     (λ (e : 0 < u % 2). rw (unzig-odd u (λ (k : u % 2 ≡ 0). omega arith)) (record { sfits = omega arith }))
     (eq-zero-or-pos (u % 2))
+
+-- reading the zigzag varint that was written gives the number back, wherever it stands
+pub get-put-signed : (z : ℤ) (before rest : List ℕ) → SFits w64 z
+    → getI64 (before ++ (putU64 (zig z) ++ rest)) (length before) ≡ Value z (length before + length (putU64 (zig z)))
+get-put-signed z before rest f = rw (get-put (zig z) before rest (zig-fits z f), unzig-zig z)
