@@ -1,6 +1,7 @@
 pub mod Choice
 pub mod Fixed
 pub mod Formats
+pub mod Gathering
 pub mod Leb128
 pub mod Outs
 pub mod Refusals
