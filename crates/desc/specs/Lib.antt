@@ -1,0 +1,9 @@
+pub mod Decoding
+pub mod Emitting
+pub mod Encoding
+pub mod Layout
+pub mod Printing
+pub mod Reading
+pub mod Table
+pub mod Trees
+pub mod Walking

@@ -1,0 +1,299 @@
+// Writing descriptors: a node table and its texts back to bytes.
+ghost use mathlib.Core.Path.{_≡_};
+ghost use Prim.Native.Nat.{_+_, _-_, _≤_};
+ghost use lib.ListN.{length};
+ghost use Rattle.varint.specs.Gathering.{nameHeld};
+ghost use Rattle.varint.specs.Outs.{declared};
+ghost use Rattle.desc.specs.Layout.{startAt, lenAt, discriminantAt};
+ghost use Rattle.desc.specs.Table.{cell, rootName, discriminantFits, predicateFits, isBranch, leafFits, nodeFits, table};
+ghost use Rattle.desc.specs.Emitting.{putNumber, putWhere, putName, putLabel, told, emission, sized, putDesc, verdict, namesFrom};
+ghost use Rattle.desc.specs.Encoding.{encodeDesc};
+use crate::node;
+use crate::node::read_cell;
+use varint::Written;
+use varint::error::Buffer;
+use varint::error::Fault;
+use varint::error::Refusal;
+use varint::put_u64;
+use varint::store::clear_bytes;
+use varint::store::copy_bytes;
+use varint::utf8::is_utf8;
+
+// The node after the last one written, and the place after the last byte; or the table is not laid out as one.
+pub enum Emitted {
+    Done { next: usize, place: usize },
+    Wrong,
+}
+
+// Whether names are in the text and are UTF-8.
+pub enum Names {
+    Good,
+    Refused(Refusal),
+}
+
+// A root's name is 0, 0; a child's is no matter of the layout.
+fn root_name(nodes: &[u64], n: usize, parent: u64) -> bool
+    ensures { λ r. ⌜ r ≡ rootName (now (nodes .entry)) n parent ⌝ }
+{
+    if parent == 0 {
+        return (read_cell(nodes, n, node::START) == 0) & (read_cell(nodes, n, node::LEN) == 0);
+    }
+    true
+}
+
+// An alternative of a union has a discriminant of 32 bits, and nothing else has one.
+fn discriminant_fits(nodes: &[u64], n: usize, parent: u64) -> bool
+    ensures { λ r. ⌜ r ≡ discriminantFits (now (nodes .entry)) n parent ⌝ }
+{
+    if parent == 4 {
+        return read_cell(nodes, n, node::DISCRIMINANT) <= 0xFFFF_FFFF;
+    }
+    read_cell(nodes, n, node::DISCRIMINANT) == 0
+}
+
+// A fact has a predicate of 32 bits, and nothing else has one.
+fn predicate_fits(nodes: &[u64], n: usize) -> bool
+    ensures { λ r. ⌜ r ≡ predicateFits (now (nodes .entry)) n ⌝ }
+{
+    if read_cell(nodes, n, node::TAG) == 2 {
+        return read_cell(nodes, n, node::PREDICATE) <= 0xFFFF_FFFF;
+    }
+    read_cell(nodes, n, node::PREDICATE) == 0
+}
+
+// Has the type parts? Then its end is told by them.
+fn is_branch(nodes: &[u64], n: usize) -> bool
+    ensures { λ r. ⌜ r ≡ isBranch (now (nodes .entry)) n ⌝ }
+{
+    let tag = read_cell(nodes, n, node::TAG);
+    (tag == 3) | (tag == 4)
+}
+
+// A type without parts has no children, and ends behind itself.
+fn leaf_fits(nodes: &[u64], n: usize) -> bool
+    requires { ⌜ n ≤ length (now nodes) ⌝ }
+    ensures { λ r. ⌜ r ≡ leafFits (now (nodes .entry)) n ⌝ }
+{
+    (read_cell(nodes, n, node::COUNT) == 0) & (read_cell(nodes, n, node::END) == (n + 1) as u64)
+}
+
+// Is node `n` there, and laid out as a node may be below a parent with this tag?
+fn node_fits(nodes: &[u64], n: usize, parent: u64) -> bool
+    ensures { λ r. ⌜ r ≡ nodeFits (now (nodes .entry)) n parent ⌝ }
+{
+    if nodes.len() / node::WIDTH <= n {
+        return false;
+    }
+    let named = (read_cell(nodes, n, node::TAG) <= 5) & root_name(nodes, n, parent);
+    let valued = discriminant_fits(nodes, n, parent) & predicate_fits(nodes, n);
+    named & valued & (is_branch(nodes, n) | leaf_fits(nodes, n))
+}
+
+// The sum, or the greatest number where it is greater.
+fn plus(a: usize, b: usize) -> usize
+    ensures { λ r. ⌜ r ≡ declared (a + b) ⌝ }
+{
+    if b <= 0xFFFF_FFFF_FFFF_FFFF - a {
+        return a + b;
+    }
+    0xFFFF_FFFF_FFFF_FFFF
+}
+
+// Stores the varint of `v` from place `at` on, as far as `out` goes, and returns the place after it.
+fn put_number(out: &mut [u8], at: usize, v: u64) -> usize
+    ensures { λ r. ⌜ record { out = now (out .exit); place = r } ≡ putNumber v (record { out = now (out .entry); place = at }) ⌝ }
+{
+    let n = put_u64(out, at, v);
+    plus(at, n)
+}
+
+// The same where it is wanted; else nothing is stored.
+fn put_where(out: &mut [u8], at: usize, wanted: bool, v: u64) -> usize
+    ensures { λ r. ⌜ record { out = now (out .exit); place = r } ≡ putWhere wanted v (record { out = now (out .entry); place = at }) ⌝ }
+{
+    if wanted {
+        return put_number(out, at, v);
+    }
+    at
+}
+
+// Stores `len` bytes of the text, as far as they are there, and moves on by `len`.
+fn put_name(text: &[u8], start: usize, len: usize, out: &mut [u8], at: usize) -> usize
+    ensures { λ r. ⌜ record { out = now (out .exit); place = r } ≡ putName (now (text .entry)) (start, len) (record { out = now (out .entry); place = at }) ⌝ }
+{
+    copy_bytes(text, start, len, out, at);
+    plus(at, len)
+}
+
+// What stands before node `m`, a child of a type with this tag.
+fn put_label(text: &[u8], nodes: &[u64], m: usize, tag: u64, out: &mut [u8], at: usize) -> usize
+    ensures { λ r. ⌜ record { out = now (out .exit); place = r } ≡ putLabel (now (text .entry)) tag (cell (now (nodes .entry)) m startAt, cell (now (nodes .entry)) m lenAt) (cell (now (nodes .entry)) m discriminantAt) (record { out = now (out .entry); place = at }) ⌝ }
+{
+    let len = read_cell(nodes, m, node::LEN);
+    let named = put_number(out, at, len);
+    let past = put_name(
+        text,
+        read_cell(nodes, m, node::START) as usize,
+        len as usize,
+        out,
+        named,
+    );
+    put_where(out, past, tag == 4, read_cell(nodes, m, node::DISCRIMINANT))
+}
+
+// Two numbers, the second only where it is asked for.
+fn put_two(out: &mut [u8], at: usize, v: u64, wanted: bool, w: u64) -> usize
+    ensures { λ r. ⌜ record { out = now (out .exit); place = r } ≡ putWhere wanted w (putNumber v (record { out = now (out .entry); place = at })) ⌝ }
+{
+    let past = put_number(out, at, v);
+    put_where(out, past, wanted, w)
+}
+
+// Writes node `n`, which stands below a parent with this tag (0: it is a root), and all below it from place `at` of `out` on, where `depth`
+// more levels may nest. What lies past the end of `out` is not stored, so with a buffer of one byte this tests the layout and tells the size.
+fn emit(
+    text: &[u8],
+    nodes: &[u64],
+    n: usize,
+    parent: u64,
+    depth: u64,
+    out: &mut [u8],
+    at: usize,
+) -> Emitted
+    ensures { λ r. ⌜ told r (now (out .exit)) ≡ emission (now (text .entry)) (table depth (now (nodes .entry)) n parent) (record { out = now (out .entry); place = at }) ⌝ }
+{
+    if depth == 0 {
+        return Emitted::Wrong;
+    }
+    if !node_fits(nodes, n, parent) {
+        return Emitted::Wrong;
+    }
+    let tag = read_cell(nodes, n, node::TAG);
+    if !is_branch(nodes, n) {
+        let place = put_two(out, at, tag, tag == 2, read_cell(nodes, n, node::PREDICATE));
+        return Emitted::Done { next: n + 1, place };
+    }
+    let count = read_cell(nodes, n, node::COUNT);
+    let mut a = put_two(out, at, tag, true, count);
+    let mut m = n + 1;
+    let mut i: u64 = 0;
+    while i < count {
+        let named = put_label(text, nodes, m, tag, out, a);
+        match emit(text, nodes, m, tag, depth - 1, out, named) {
+            Emitted::Wrong => {
+                return Emitted::Wrong;
+            }
+            Emitted::Done { next, place } => {
+                m = next;
+                a = place;
+            }
+        }
+        i += 1;
+    }
+    if read_cell(nodes, n, node::END) == m as u64 {
+        return Emitted::Done { next: m, place: a };
+    }
+    Emitted::Wrong
+}
+
+// The node after the tree whose root is node `n`, and how many bytes it takes by the lengths in the table; a size over 2^64−1 is told as
+// 2^64−1.
+pub fn size_desc(nodes: &[u64], n: usize, limit: u64) -> Emitted
+    ensures { λ r. ⌜ r ≡ sized (table limit (now (nodes .entry)) n 0) ⌝ }
+{
+    let text = [0u8; 1];
+    let mut scratch = [0u8; 1];
+    emit(&text, nodes, n, 0, limit, &mut scratch, 0)
+}
+
+// Writes the tree whose root is node `n` from place `at` of `out` on, as far as `out` goes: for whoever writes a descriptor within other bytes. Of
+// a table that is not laid out as one nothing is written.
+pub fn put_desc(
+    text: &[u8],
+    nodes: &[u64],
+    n: usize,
+    limit: u64,
+    out: &mut [u8],
+    at: usize,
+) -> Emitted
+    ensures { λ r. ⌜ record { answer = r; out = now (out .exit) } ≡ putDesc (now (text .entry)) (table limit (now (nodes .entry)) n 0) (record { out = now (out .entry); place = at }) ⌝ }
+{
+    match size_desc(nodes, n, limit) {
+        Emitted::Wrong => Emitted::Wrong,
+        Emitted::Done { next: _, place: _ } => emit(text, nodes, n, 0, limit, out, at),
+    }
+}
+
+// Is the name of `len` bytes from place `start` on in the text, and is it UTF-8?
+fn check_name(text: &[u8], start: usize, len: usize) -> Names
+    ensures { λ r. ⌜ r ≡ verdict (nameHeld (now (text .entry)) start len) ⌝ }
+{
+    if text.len() < start {
+        return Names::Refused(Refusal::BadMessage(Fault::Texts));
+    }
+    if text.len() - start < len {
+        return Names::Refused(Refusal::BadMessage(Fault::Texts));
+    }
+    if is_utf8(text, start, len) {
+        return Names::Good;
+    }
+    Names::Refused(Refusal::BadString)
+}
+
+// The names of the nodes from `from` to before `end`: nodes stand in reading order, and so do their names.
+pub fn check_names(text: &[u8], nodes: &[u64], from: usize, end: usize) -> Names
+    ensures { λ r. ⌜ r ≡ namesFrom (now (text .entry)) (now (nodes .entry)) from (end - from) ⌝ }
+{
+    let mut m = from;
+    while m < end {
+        match check_name(
+            text,
+            read_cell(nodes, m, node::START) as usize,
+            read_cell(nodes, m, node::LEN) as usize,
+        ) {
+            Names::Refused(r) => {
+                return Names::Refused(r);
+            }
+            Names::Good => {}
+        }
+        m += 1;
+    }
+    Names::Good
+}
+
+// A length of 2^64−1 may stand for a greater one, and is over any `max` there is.
+fn encode_within(text: &[u8], nodes: &[u64], max: u64, limit: u64, out: &mut [u8]) -> Written
+    requires { ⌜ max ≤ 4294967296 ⌝ }
+    ensures { λ r. ⌜ record { answer = r; out = now (out .exit) } ≡ encodeDesc max limit (now (text .entry)) (now (nodes .entry)) (now (out .entry)) ⌝ }
+{
+    match size_desc(nodes, 0, limit) {
+        Emitted::Wrong => Written::Refused(Refusal::BadMessage(Fault::Layout)),
+        Emitted::Done { next, place } => match check_names(text, nodes, 1, next) {
+            Names::Refused(r) => Written::Refused(r),
+            Names::Good => {
+                if max < place as u64 {
+                    return Written::Refused(Refusal::BlockTooLarge {
+                        declared: place as u64,
+                        max,
+                    });
+                }
+                if out.len() < place {
+                    return Written::Refused(Refusal::TooSmall {
+                        which: Buffer::Out,
+                        needed: place as u64,
+                    });
+                }
+                emit(text, nodes, 0, 0, limit, out, 0);
+                clear_bytes(out, place);
+                Written::Wrote { len: place }
+            }
+        },
+    }
+}
+
+// Writes the descriptor that a node table and its texts make, and zeros after it; or a refusal, and nothing is written.
+pub fn encode_desc(text: &[u8], nodes: &[u64], out: &mut [u8]) -> Written
+    ensures { λ r. ⌜ record { answer = r; out = now (out .exit) } ≡ encodeDesc 67108864 64 (now (text .entry)) (now (nodes .entry)) (now (out .entry)) ⌝ }
+{
+    encode_within(text, nodes, crate::MAX_PAYLOAD, crate::MAX_DEPTH, out)
+}
