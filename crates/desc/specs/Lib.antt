@@ -6,4 +6,6 @@ pub mod Printing
 pub mod Reading
 pub mod Table
 pub mod Trees
+pub mod Tried
 pub mod Walking
+pub mod WellFormed
