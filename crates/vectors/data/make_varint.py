@@ -304,10 +304,11 @@ def stores():
                 line("copy_bytes", start, n, at, src, out, answer=words("out", stored(out, at, src[start:start + n])))
 
 
-print("# Made by make_varint.py: each request of the crate `varint`, and its answer.")
-varints()
-signed()
-fixed()
-utf8()
-texts()
-stores()
+if __name__ == "__main__":
+    print("# Made by make_varint.py: each request of the crate `varint`, and its answer.")
+    varints()
+    signed()
+    fixed()
+    utf8()
+    texts()
+    stores()

@@ -1,5 +1,6 @@
 // One line of a data file: the request is replayed, and its answer compared with the recorded one.
 use crate::answer::Outcome;
+use crate::desc_ops;
 use crate::parts::after;
 use crate::parts::front;
 use crate::varint_ops;
@@ -87,13 +88,22 @@ fn is_skipped(line: &[u8]) -> bool {
     line[0] == b'#'
 }
 
+// The operations of each layer, the lowest first.
+fn perform(request: &[u8], bytes: &mut [u8], out: &mut [u8], answer: &mut [u8]) -> Outcome {
+    let o = varint_ops::perform(request, bytes, out, answer);
+    if o.is_known() {
+        return o;
+    }
+    desc_ops::perform(request, bytes, out, answer)
+}
+
 // Is the answer to the line's request the recorded one? Where it is not, the line is printed.
 fn is_as_recorded(line: &[u8], bytes: &mut [u8], out: &mut [u8], answer: &mut [u8]) -> bool {
     let middle = find_equals(line);
     if middle == line.len() {
         return differs(line, b"no answer is recorded", b"");
     }
-    match varint_ops::perform(front(line, middle), bytes, out, answer) {
+    match perform(front(line, middle), bytes, out, answer) {
         Outcome::Answered(w) => compare(line, after(after(line, middle), 3), w.text(answer)),
         Outcome::Unknown => differs(line, b"no such operation", b""),
         Outcome::Malformed => differs(line, b"an argument is malformed", b""),

@@ -19,7 +19,7 @@ use varint::text;
 use varint::text::ReadText;
 use varint::utf8;
 
-fn refused(r: Refusal, answer: &mut [u8]) -> Writer {
+pub(crate) fn refused(r: Refusal, answer: &mut [u8]) -> Writer {
     let c = code_of(r);
     Writer::new()
         .word(answer, b"refused")
@@ -76,7 +76,7 @@ fn show_bool(b: bool, answer: &mut [u8]) -> Outcome {
     Outcome::Answered(Writer::new().word(answer, b"no"))
 }
 
-fn show_out(w: Writer, out: &[u8], answer: &mut [u8]) -> Outcome {
+pub(crate) fn show_out(w: Writer, out: &[u8], answer: &mut [u8]) -> Outcome {
     Outcome::Answered(w.word(answer, b"out").hex(answer, out))
 }
 
@@ -161,7 +161,7 @@ fn put_i64(request: &[u8], out: &mut [u8], answer: &mut [u8]) -> Outcome {
     show_length(n, front(out, room.len), answer).of_good(room.next.is_end(request))
 }
 
-fn written(r: Written, answer: &mut [u8]) -> Writer {
+pub(crate) fn written(r: Written, answer: &mut [u8]) -> Writer {
     match r {
         Written::Wrote { len } => Writer::new()
             .word(answer, b"wrote")

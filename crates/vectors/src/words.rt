@@ -22,7 +22,7 @@ pub struct Signed {
     pub next: Cursor,
 }
 
-// Bytes at the start of a buffer.
+// Bytes, or numbers, at the start of a buffer.
 pub struct Bytes {
     pub len: usize,
     pub next: Cursor,
@@ -49,6 +49,10 @@ struct Pairs {
 impl Cursor {
     pub(crate) fn is_end(self, request: &[u8]) -> bool {
         self.good & (self.at == request.len())
+    }
+
+    fn is_more(self, request: &[u8]) -> bool {
+        self.good & (self.at < request.len())
     }
 
     fn spoiled(self) -> Cursor {
@@ -281,6 +285,22 @@ pub(crate) fn take_signed(request: &[u8], c: Cursor) -> Signed {
         return w.negative(decimal(after(text, 1)));
     }
     w.positive(decimal(text))
+}
+
+// Numbers to the end of the request, as many as the buffer holds.
+pub(crate) fn take_numbers(request: &[u8], c: Cursor, buffer: &mut [u64]) -> Bytes {
+    let mut next = c;
+    let mut len = 0;
+    while len < buffer.len() {
+        if !next.is_more(request) {
+            return Bytes { len, next };
+        }
+        let n = take_number(request, next);
+        buffer[len] = n.value;
+        next = n.next;
+        len += 1;
+    }
+    Bytes { len, next }
 }
 
 pub(crate) fn take_bytes(request: &[u8], c: Cursor, buffer: &mut [u8]) -> Bytes {
