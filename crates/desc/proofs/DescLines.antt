@@ -3,7 +3,7 @@ use mathlib.Core.Path.{refl}
 use Rattle.varint.proofs.BytesToTry.{same, agree, agree-holds, holds-append, varint-lines}
 use Rattle.varint.specs.Leb128.{readFrom, getU64}
 use Rattle.varint.specs.Stores.{part}
-use Rattle.varint.specs.Texts.{textOf, getText, getName}
+use Rattle.varint.specs.Texts.{skimText, getText, getName}
 use Rattle.varint.specs.Tried.{Holds, varintLines}
 use Rattle.varint.specs.Utf8.{lead, scan, utf8}
 use Rattle.desc.specs.Layout.{texts, placed, rows}
@@ -12,7 +12,7 @@ use Rattle.desc.specs.Trees.{kidCount, size}
 use Rattle.desc.specs.Tried.{ownLines, descLines}
 
 own-lines : Holds ownLines
-unfolding same agree getU64 readFrom part textOf getText getName utf8 scan lead texts placed rows headAt labelAt children desc kidCount size ownLines
+unfolding same agree getU64 readFrom part skimText getText getName utf8 scan lead texts placed rows headAt labelAt children desc kidCount size ownLines
 own-lines = agree-holds ownLines refl
 
 pub desc-lines : Holds descLines

@@ -6,31 +6,27 @@ use Prim.Native.Nat.{ℕ, _+_, _-_, _≤_, _<_}
 use native.Mathlib.Omega.{arith}
 use lib.Dec.{ltb, eqb}
 use lib.ListN.{length}
-use borrow.Author.Tests.{ltb-false}
 use Rattle.varint.specs.Leb128.{getU64}
 use Rattle.varint.specs.Texts.{getName}
 use Rattle.varint.specs.declared.ReadU64.{ReadU64}
 use Rattle.varint.specs.declared.ReadU64.the-variants.{Value, Refused as NoValue}
 use Rattle.varint.specs.declared.text.ReadText.{ReadText}
 use Rattle.varint.specs.declared.text.ReadText.the-variants.{Text, Refused as NoText}
-use Rattle.varint.proofs.Basics.{pick-both, pick-cases}
+use Rattle.varint.proofs.Basics.{pick-both}
 use Rattle.varint.proofs.FormatParts.{text-inside, get-name}
+use Rattle.varint.proofs.TextLaws.{TextEnds, skim-ends}
 use Rattle.varint.proofs.ReadLaws.{Ends, get-ends}
 use Rattle.desc.specs.declared.head.Head.{Head}
 use Rattle.desc.specs.declared.head.Head.the-variants.{Leaf, Branch, Refused as NoHead}
 use Rattle.desc.specs.declared.head.Label.{Label}
 use Rattle.desc.specs.declared.head.Label.the-variants.{Named, Refused as NoLabel}
-use Rattle.desc.specs.Reading.{factOn, countOn, headOn, headAt, skimOn, skimName, nameBy, discriminantOn, labelOn, labelAt}
+use Rattle.desc.specs.Reading.{factOn, countOn, headOn, headAt, nameBy, discriminantOn, labelOn, labelAt}
 
 -- past the place lo, and at most at hi
 abbrev pub HeadEnds : ℕ → ℕ → Head → Type 0
 HeadEnds lo hi (Leaf tag p next) = (lo < next) × (next ≤ hi)
 HeadEnds lo hi (Branch tag n next) = (lo < next) × (next ≤ hi)
 HeadEnds lo hi (NoHead r) = Unit
-
-abbrev TextEnds : ℕ → ℕ → ReadText → Type 0
-TextEnds lo hi (Text start n next) = (lo < start) × (start + n ≤ next) × (next ≤ hi)
-TextEnds lo hi (NoText r) = Unit
 
 abbrev pub LabelEnds : ℕ → ℕ → Label → Type 0
 LabelEnds lo hi (Named start n d next) = (lo < start) × (start + n ≤ next) × (next ≤ hi)
@@ -57,23 +53,13 @@ head-ends s at = on (getU64 s at) (get-ends s at)
         (pick-both P (ltb 5 tag) tt e))
     on (NoValue r) e = tt
 
-skim-ends : (s : List ℕ) (at : ℕ) (x : ReadU64) → Ends at (length s) x → TextEnds at (length s) (skimOn s x)
-skim-ends s at (Value n next) e =
-    pick-cases (TextEnds at (length s)) (ltb (length s - next) n) (λ _. tt)
-    (λ f. let g = ltb-false (length s - next) n f in let e₁ = e .1 in (e .0, omega arith, omega arith))
-skim-ends s at (NoValue r) e = tt
-
 name-ends : (check : Bool) (s : List ℕ) (at : ℕ) → TextEnds at (length s) (nameBy check s at)
-unfolding skimName
 name-ends true s at = on (getName s at) refl
   where
     on : (x : ReadText) → getName s at ≡ x → TextEnds at (length s) x
-    on (Text start n next) e =
-        let i = text-inside s at start n next (sym (get-name s at) ∙ e) in
-        let i₁ = i .1 in
-        (i .0, omega arith, i .2)
+    on (Text start n next) e = text-inside s at start n next (sym (get-name s at) ∙ e)
     on (NoText r) e = tt
-name-ends false s at = skim-ends s at (getU64 s at) (get-ends s at)
+name-ends false s at = skim-ends s at
 
 discriminant-ends : (start n : ℕ) (x : ReadU64) (lo p hi : ℕ) → lo < start → start + n ≤ p → Ends p hi x → LabelEnds lo hi (discriminantOn start n x)
 discriminant-ends start n (Value d next) lo p hi h k e =
@@ -87,9 +73,11 @@ label-ends check s tag p = on (nameBy check s p) (name-ends check s p)
   where
     on : (x : ReadText) → TextEnds p (length s) x → LabelEnds p (length s) (labelOn s tag x)
     on (Text start n next) e =
+        let e₁ = e .1 in
+        let le : start + n ≤ next = omega arith in
         pick-both (LabelEnds p (length s)) (eqb tag 4)
-        (discriminant-ends start n (getU64 s next) p next (length s) (e .0) (e .1) (get-ends s next))
-        e
+        (discriminant-ends start n (getU64 s next) p next (length s) (e .0) le (get-ends s next))
+        (e .0, le, e .2)
     on (NoText r) e = tt
 
 -- of a start or a label that is known

@@ -15,10 +15,6 @@ module _ (rd : ℕ → Got (Tree (List ℕ))) (check : Bool) (s : List ℕ) (tag
   abbrev pub before : (from len d : ℕ) → Tree (List ℕ) → ℕ → Got (Kids (List ℕ))
   before from len d tr e = then (children rd check s tag k e) (λ ks f. got (more (part s from len) d tr ks) f)
 
-  -- a child whose label was read, and k more
-  abbrev pub labelled : (from len d body : ℕ) → Got (Kids (List ℕ))
-  labelled from len d body = then (rd body) (before from len d)
-
   pub one-more : (p from len d body e : ℕ) (tr : Tree (List ℕ)) → labelAt check s tag p ≡ Named from len d body → rd body ≡ got tr e
       → children rd check s tag (suc k) p ≡ before from len d tr e
   unfolding children

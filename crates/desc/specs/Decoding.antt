@@ -11,7 +11,7 @@ use Rattle.varint.specs.Choice.{pick}
 use Rattle.varint.specs.Formats.{Got, got, bad}
 use Rattle.varint.specs.Leb128.{readFrom, getU64}
 use Rattle.varint.specs.Stores.{part, filled}
-use Rattle.varint.specs.Texts.{textOf, getText, getName}
+use Rattle.varint.specs.Texts.{skimText, getText, getName}
 use Rattle.varint.specs.Utf8.{utf8, scan, lead}
 use Rattle.varint.specs.declared.error.Buffer.the-variants.{Text, Nodes}
 use Rattle.varint.specs.declared.error.Refusal.{Refusal}
@@ -79,7 +79,7 @@ decodeDesc max limit s tx rs nd =
 -- into buffers of four bytes, one number and eight: all of them dirty before
 example-decoded : decodeDesc 67108864 64 (0x04 ∷ 0x01 ∷ 0x01 ∷ 0x78 ∷ 0x09 ∷ 0x00 ∷ 0xFF ∷ []) (9 ∷ 9 ∷ []) (9 ∷ []) (9 ∷ 9 ∷ 9 ∷ 9 ∷ 9 ∷ 9 ∷ 9 ∷ 9 ∷ 9 ∷ 9 ∷ 9 ∷ 9 ∷ 9 ∷ 9 ∷ 9 ∷ [])
     ≡ record { answer = Accepted 6; text = 0x78 ∷ 0 ∷ []; rows = 0 ∷ []; nodes = 4 ∷ 0 ∷ 0 ∷ 0 ∷ 0 ∷ 1 ∷ 2 ∷ 0 ∷ 0 ∷ 1 ∷ 9 ∷ 0 ∷ 0 ∷ 2 ∷ 0 ∷ [] }
-unfolding decodeDesc settled filled desc children headAt labelAt getU64 readFrom getName getText textOf utf8 scan lead part texts placed rows size kidCount
+unfolding decodeDesc settled filled desc children headAt labelAt getU64 readFrom getName getText skimText utf8 scan lead part texts placed rows size kidCount
 example-decoded = refl
 
 -- "TooSmall given before the message is read" is not accepted: a bad descriptor is refused as one, whatever was lent
@@ -90,3 +90,8 @@ example-bad = refl
 example-short : decodeDesc 67108864 64 (0x00 ∷ []) [] [] (9 ∷ []) ≡ kept (TooSmall Nodes 7) [] [] (9 ∷ [])
 unfolding decodeDesc settled desc headAt getU64 readFrom texts size
 example-short = refl
+
+-- with a maximum of two bytes
+example-large : decodeDesc 2 64 (0x03 ∷ 0x00 ∷ 0x00 ∷ []) [] [] [] ≡ kept (BlockTooLarge 3 2) [] [] []
+unfolding decodeDesc
+example-large = refl

@@ -10,7 +10,7 @@ use Rattle.varint.specs.Stores.{part, filled}
 use Rattle.varint.specs.Utf8.{utf8, scan, lead}
 use Rattle.varint.specs.declared.Written.the-variants.{Wrote, Refused}
 use Rattle.varint.specs.declared.error.Fault.the-variants.{Layout}
-use Rattle.varint.specs.declared.error.Refusal.the-variants.{BadMessage}
+use Rattle.varint.specs.declared.error.Refusal.the-variants.{BadMessage, BlockTooLarge}
 use Rattle.desc.specs.Layout.{Span}
 use Rattle.desc.specs.Printing.{print}
 use Rattle.desc.specs.Table.{rootName, discriminantFits, predicateFits, isBranch, leafFits, nodeFits, kidsAt, table, gather}
@@ -39,3 +39,8 @@ example-encoded = refl
 example-order : encodeDesc 67108864 64 [] (4 ∷ 0 ∷ 0 ∷ 0 ∷ 0 ∷ 1 ∷ 3 ∷ 5 ∷ 3 ∷ 1 ∷ 9 ∷ 0 ∷ 0 ∷ 2 ∷ []) (9 ∷ []) ≡ record { answer = Refused (BadMessage Layout); out = 9 ∷ [] }
 unfolding encodeDesc sent heldIn table kidsAt nodeFits rootName discriminantFits predicateFits isBranch leafFits
 example-order = refl
+
+-- with a maximum of one byte
+example-large : encodeDesc 1 64 [] (2 ∷ 0 ∷ 0 ∷ 0 ∷ 7 ∷ 0 ∷ 1 ∷ []) (9 ∷ 9 ∷ []) ≡ record { answer = Refused (BlockTooLarge 2 1); out = 9 ∷ 9 ∷ [] }
+unfolding encodeDesc sent heldIn send gather print putU64 putBy table nodeFits rootName discriminantFits predicateFits isBranch leafFits
+example-large = refl

@@ -3,14 +3,14 @@
 use mathlib.Core.Bool.{Bool, true, false, _||_}
 use mathlib.Core.Path.{_≡_, refl}
 use mathlib.Core.List.{List, [], _∷_}
-use Prim.Native.Nat.{ℕ, zero, suc, _+_, _-_}
+use Prim.Native.Nat.{ℕ, zero, suc, _-_}
 use lib.Dec.{ltb, eqb}
 use lib.ListN.{length}
 use Rattle.varint.specs.Choice.{pick}
 use Rattle.varint.specs.Formats.{Got, got, bad, then}
 use Rattle.varint.specs.Leb128.{readFrom, getU64}
 use Rattle.varint.specs.Stores.{part}
-use Rattle.varint.specs.Texts.{textOf, getText, getName}
+use Rattle.varint.specs.Texts.{skimText, getText, getName}
 use Rattle.varint.specs.Utf8.{utf8, scan, lead}
 use Rattle.varint.specs.declared.error.Refusal.the-variants.{LengthOutOfRange, UnknownRefForm, UnknownDiscriminant, UnknownPredicate, TooDeep}
 use Rattle.varint.specs.declared.ReadU64.{ReadU64}
@@ -45,18 +45,10 @@ headOn s at (NoValue r) = NoHead r
 unfoldable pub headAt : List ℕ → ℕ → Head
 headAt s at = headOn s at (getU64 s at)
 
-abbrev pub skimOn : List ℕ → ReadU64 → ReadText
-skimOn s (Value n next) = pick (ltb (length s - next) n) (NoText (LengthOutOfRange n (length s - next))) (Text next n (next + n))
-skimOn s (NoValue r) = NoText r
-
--- where a name lies, its bytes not looked at
-unfoldable pub skimName : List ℕ → ℕ → ReadText
-skimName s at = skimOn s (getU64 s at)
-
 -- A name, checked; or not, where it was before.
 abbrev pub nameBy : Bool → List ℕ → ℕ → ReadText
 nameBy true s at = getName s at
-nameBy false s at = skimName s at
+nameBy false s at = skimText s at
 
 -- "a discriminant 7"
 abbrev pub discriminantOn : ℕ → ℕ → ReadU64 → Label
@@ -93,16 +85,16 @@ desc check limit zero s at = bad (TooDeep limit)
 desc check limit (suc depth) s at = descOn (desc check limit depth s) check s (headAt s at)
 
 example-record : desc true 64 64 (0x03 ∷ 0x02 ∷ 0x01 ∷ 0x61 ∷ 0x00 ∷ 0x02 ∷ 0x62 ∷ 0x63 ∷ 0x02 ∷ 0x07 ∷ 0xFF ∷ []) 0 ≡ got sample 10
-unfolding desc children headAt labelAt getU64 readFrom getName getText textOf utf8 scan lead part
+unfolding desc children headAt labelAt getU64 readFrom getName getText skimText utf8 scan lead part
 example-record = refl
 
 example-union : desc true 64 64 (0x04 ∷ 0x01 ∷ 0x01 ∷ 0x78 ∷ 0x09 ∷ 0x05 ∷ []) 0 ≡ got sampleUnion 6
-unfolding desc children headAt labelAt getU64 readFrom getName getText textOf utf8 scan lead part
+unfolding desc children headAt labelAt getU64 readFrom getName getText skimText utf8 scan lead part
 example-union = refl
 
 -- a record in a record where one level may nest: refused before the inner tag is read
 example-deep : desc true 1 1 (0x03 ∷ 0x01 ∷ 0x00 ∷ []) 0 ≡ bad (TooDeep 1)
-unfolding desc children headAt labelAt getU64 readFrom getName getText textOf utf8 scan lead part
+unfolding desc children headAt labelAt getU64 readFrom getName getText skimText utf8 scan lead part
 example-deep = refl
 
 -- a predicate of 33 bits

@@ -3,11 +3,11 @@ ghost use mathlib.Core.Path.{_≡_};
 ghost use Prim.Native.Nat.{_≤_};
 ghost use lib.ListN.{length};
 ghost use Rattle.varint.specs.Leb128.{getU64};
-ghost use Rattle.varint.specs.declared.ReadU64.the-variants.{Value};
-ghost use Rattle.desc.specs.Reading.{factOn, countOn, headAt, skimOn, skimName, nameBy, discriminantOn, labelAt};
+ghost use Rattle.desc.specs.Reading.{factOn, countOn, headAt, nameBy, discriminantOn, labelAt};
 use varint::ReadU64;
 use varint::error::Refusal;
 use varint::text::ReadText;
+use varint::text::skim_str;
 use varint::text::take_name;
 
 // A type without parts, by its tag and a fact's predicate; or one with parts, by its tag and how many.
@@ -107,36 +107,6 @@ pub(crate) fn read_head(s: &[u8], at: usize) -> Head
     }
 }
 
-// Where the n bytes of a name that starts at place `start` lie. They are not looked at: they were, when the descriptor was read first.
-fn span_of(s: &[u8], n: u64, start: usize) -> ReadText
-    requires { ⌜ start ≤ length (now s) ⌝ }
-    ensures { λ r. ⌜ r ≡ skimOn (now (s .entry)) (Value n start) ⌝ }
-{
-    let available = (s.len() - start) as u64;
-    if available < n {
-        return ReadText::Refused(Refusal::LengthOutOfRange {
-            declared: n,
-            available,
-        });
-    }
-    let len = n as usize;
-    ReadText::Text {
-        start,
-        len,
-        next: start + len,
-    }
-}
-
-// Where the name at place `at` lies.
-fn skim_name(s: &[u8], at: usize) -> ReadText
-    ensures { λ r. ⌜ r ≡ skimName (now (s .entry)) at ⌝ }
-{
-    match varint::get_u64(s, at) {
-        ReadU64::Value { value, next } => span_of(s, value, next),
-        ReadU64::Refused(r) => ReadText::Refused(r),
-    }
-}
-
 // A name, its bytes checked or not.
 fn read_name(s: &[u8], at: usize, check: bool) -> ReadText
     ensures { λ r. ⌜ r ≡ nameBy check (now (s .entry)) at ⌝ }
@@ -144,7 +114,7 @@ fn read_name(s: &[u8], at: usize, check: bool) -> ReadText
     if check {
         return take_name(s, at);
     }
-    skim_name(s, at)
+    skim_str(s, at)
 }
 
 // An alternative's discriminant has 32 bits.

@@ -10,7 +10,7 @@ use borrow.Author.Tests.{le-ltb}
 use Rattle.varint.specs.Formats.{Got, got, then, Format, gotNumber, gotText, varint, fixed, text, name, _⊗_, named, readTimes, printAll, counted}
 use Rattle.varint.specs.Leb128.{getU64, putU64}
 use Rattle.varint.specs.RoundTrips.{Reads, Back, TextOk, All, ListOk}
-use Rattle.varint.specs.Texts.{textOf, afterLength, getText, getName}
+use Rattle.varint.specs.Texts.{skimOn, skimText, checked, getText, getName}
 use Rattle.varint.specs.Utf8.{utf8}
 use Rattle.varint.specs.declared.ReadU64.{ReadU64}
 use Rattle.varint.specs.declared.ReadU64.the-variants.{Value, Refused as NoValue}
@@ -41,16 +41,15 @@ fixed-back w = record { back = λ n h before rest. rw (length-putLe w n) (ap got
 -- Texts
 
 -- a text is read as its length and then so many bytes
-text-then : (s : List ℕ) (at : ℕ) → text .read s at ≡ then (varint .read s at) (λ n p. gotText s (textOf s n p))
-unfolding getText
+text-then : (s : List ℕ) (at : ℕ) → text .read s at ≡ then (varint .read s at) (λ n p. gotText s (checked s (skimOn s (Value n p))))
+unfolding getText skimText
 text-then s at = go (getU64 s at)
   where
-    go : (x : ReadU64) → gotText s (afterLength s x) ≡ then (gotNumber x) (λ n p. gotText s (textOf s n p))
+    go : (x : ReadU64) → gotText s (checked s (skimOn s x)) ≡ then (gotNumber x) (λ n p. gotText s (checked s (skimOn s (Value n p))))
     go (Value n p) = refl
     go (NoValue r) = refl
 
-bytes-back : (t : List ℕ) → utf8 t ≡ true → Reads (λ s p. gotText s (textOf s (length t) p)) t t
-unfolding textOf
+bytes-back : (t : List ℕ) → utf8 t ≡ true → Reads (λ s p. gotText s (checked s (skimOn s (Value (length t) p)))) t t
 bytes-back t u before rest =
     let room : length t ≤ length (before ++ (t ++ rest)) - length before = simp length-append (omega arith) in
     rw (le-ltb (length (before ++ (t ++ rest)) - length before) (length t) room, ap utf8 (part-seam before t rest) ∙ u, part-seam before t rest)
@@ -60,7 +59,7 @@ text-back =
     record {
       back = λ t h before rest.
           text-then (before ++ (putU64 (length t) ++ t ++ rest)) (length before)
-          ∙ in-a-row (varint .read) (λ n s p. gotText s (textOf s n p)) (putU64 (length t)) t (length t) t
+          ∙ in-a-row (varint .read) (λ n s p. gotText s (checked s (skimOn s (Value n p)))) (putU64 (length t)) t (length t) t
           (varint-back .back (length t) (h .0)) (bytes-back t (h .1)) before rest;
     }
 

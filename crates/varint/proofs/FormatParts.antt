@@ -10,7 +10,7 @@ use borrow.Author.Tests.{ltb-false}
 use Rattle.varint.specs.Formats.{Got, got, bad, then, Format, gotNumber, gotText, text, _⊗_, named, readTimes, printAll, counted}
 use Rattle.varint.specs.Leb128.{getU64}
 use Rattle.varint.specs.Stores.{part}
-use Rattle.varint.specs.Texts.{textOf, afterLength, getText, getName}
+use Rattle.varint.specs.Texts.{skimOn, skimText, checked, getText, getName}
 use Rattle.varint.specs.Utf8.{utf8}
 use Rattle.varint.specs.declared.error.Refusal.{Refusal}
 use Rattle.varint.specs.declared.ReadU64.{ReadU64}
@@ -136,7 +136,7 @@ pub record TextAt (s : List ℕ) (at p n q : ℕ) : Type 0 where
   pub next : p + n ≡ q
 
 pub text-at : (s : List ℕ) (at p n q : ℕ) → getText s at ≡ Text p n q → TextAt s at p n q
-unfolding getText textOf
+unfolding getText skimText
 text-at s at p n q e = go (getU64 s at) refl e
   where
     found : (m o : ℕ) → getU64 s at ≡ Value m o → m ≤ length s - o → utf8 (part s o m) ≡ true
@@ -150,11 +150,11 @@ text-at s at p n q e = go (getU64 s at) refl e
     no : {r : Refusal} → NoText r ≡ Text p n q → TextAt s at p n q
     no f = let z : _≡_ {A = ℕ} 0 1 = cc in absurd (omega arith)
 
-    go : (x : ReadU64) → getU64 s at ≡ x → afterLength s x ≡ Text p n q → TextAt s at p n q
+    go : (x : ReadU64) → getU64 s at ≡ x → checked s (skimOn s x) ≡ Text p n q → TextAt s at p n q
     go (NoValue r) i f = no f
     go (Value m o) i f =
         let P : ReadText → Type 0 = λ y. y ≡ Text p n q → TextAt s at p n q in
-        pick-cases P (ltb (length s - o) m) (λ _. no)
+        pick-cases (λ y. P (checked s y)) (ltb (length s - o) m) (λ _. no)
         (λ t. pick-cases P (utf8 (part s o m)) (λ u. found m o i (ltb-false (length s - o) m t) u) (λ _. no))
         f
 

@@ -12,6 +12,7 @@ pub mod OutLaws
 pub mod PutLaws
 pub mod ReadLaws
 pub mod StoreLaws
+pub mod TextLaws
 pub mod Utf8Grammar
 pub mod Utf8Laws
 pub mod VarintLaws

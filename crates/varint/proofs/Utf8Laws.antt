@@ -1,5 +1,5 @@
 -- Laws of the test of UTF-8: what a first octet asks, what a text is followed by, and the steps that the code takes.
-use mathlib.Core.Bool.{Bool, true, false, _&&_, _||_, true≢false, and-false, and-true, and-assoc}
+use mathlib.Core.Bool.{Bool, true, false, _&&_, _||_, and-false, and-true, and-assoc}
 use mathlib.Core.Path.{_≡_, refl, sym, _∙_, ap, subst}
 use mathlib.Core.Logic.{⊎-elim}
 use mathlib.Core.List.{List, [], _∷_, _++_}

@@ -7,7 +7,7 @@ use lib.ListN.{length}
 use Rattle.varint.specs.Fixed.{le, getLe, putLe}
 use Rattle.varint.specs.Leb128.{readFrom, getU64, putBy, putU64}
 use Rattle.varint.specs.Stores.{part}
-use Rattle.varint.specs.Texts.{textOf, getText, getName}
+use Rattle.varint.specs.Texts.{skimText, getText, getName}
 use Rattle.varint.specs.Utf8.{utf8, scan, lead}
 use Rattle.varint.specs.declared.error.Refusal.{Refusal}
 use Rattle.varint.specs.declared.error.Refusal.the-variants.{LengthOutOfRange}
@@ -97,10 +97,10 @@ unfolding putU64 putBy putLe printAll
 example-printed = refl
 
 example-read : example .read (0xAC ∷ 0x02 ∷ 0x02 ∷ 0x01 ∷ 0x02 ∷ 0x02 ∷ 0x68 ∷ 0x69 ∷ 0x00 ∷ []) 0 ≡ got (300, (258, (0x68 ∷ 0x69 ∷ []) ∷ [] ∷ [])) 9
-unfolding getU64 readFrom getLe le readTimes getName getText textOf utf8 scan lead part
+unfolding getU64 readFrom getLe le readTimes getName getText skimText utf8 scan lead part
 example-read = refl
 
 -- the second name has five bytes to come, and only one is there
 example-refused : example .read (0xAC ∷ 0x02 ∷ 0x02 ∷ 0x01 ∷ 0x02 ∷ 0x00 ∷ 0x05 ∷ 0x68 ∷ []) 0 ≡ bad (LengthOutOfRange 5 1)
-unfolding getU64 readFrom getLe le readTimes getName getText textOf utf8 scan lead part
+unfolding getU64 readFrom getLe le readTimes getName getText skimText utf8 scan lead part
 example-refused = refl

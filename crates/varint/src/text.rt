@@ -2,7 +2,8 @@
 ghost use mathlib.Core.Path.{_≡_};
 ghost use Prim.Native.Nat.{_≤_};
 ghost use lib.ListN.{length};
-ghost use Rattle.varint.specs.Texts.{textOf, getText, getName};
+ghost use Rattle.varint.specs.Texts.{skimOn, skimText, getText, getName};
+ghost use Rattle.varint.specs.declared.ReadU64.the-variants.{Value};
 use crate::ReadU64;
 use crate::error::Refusal;
 use crate::utf8::is_utf8;
@@ -18,9 +19,9 @@ pub enum ReadText {
 }
 
 // The text whose length `n` was read and whose bytes start at `start`.
-fn text_of(s: &[u8], n: u64, start: usize) -> ReadText
+fn span_of(s: &[u8], n: u64, start: usize) -> ReadText
     requires { ⌜ start ≤ length (now s) ⌝ }
-    ensures { λ r. ⌜ r ≡ textOf (now (s .entry)) n start ⌝ }
+    ensures { λ r. ⌜ r ≡ skimOn (now (s .entry)) (Value n start) ⌝ }
 {
     let available = (s.len() - start) as u64;
     if available < n {
@@ -30,23 +31,35 @@ fn text_of(s: &[u8], n: u64, start: usize) -> ReadText
         });
     }
     let len = n as usize;
-    if is_utf8(s, start, len) {
-        return ReadText::Text {
-            start,
-            len,
-            next: start + len,
-        };
+    ReadText::Text {
+        start,
+        len,
+        next: start + len,
     }
-    ReadText::Refused(Refusal::BadString)
+}
+
+// Where the text at place `at` of `s` lies. Its bytes are not looked at: this is for what was read before.
+pub fn skim_str(s: &[u8], at: usize) -> ReadText
+    ensures { λ r. ⌜ r ≡ skimText (now (s .entry)) at ⌝ }
+{
+    match crate::get_u64(s, at) {
+        ReadU64::Value { value, next } => span_of(s, value, next),
+        ReadU64::Refused(r) => ReadText::Refused(r),
+    }
 }
 
 // The text at place `at` of `s`.
 pub fn get_str(s: &[u8], at: usize) -> ReadText
     ensures { λ r. ⌜ r ≡ getText (now (s .entry)) at ⌝ }
 {
-    match crate::get_u64(s, at) {
-        ReadU64::Value { value, next } => text_of(s, value, next),
-        ReadU64::Refused(r) => ReadText::Refused(r),
+    match skim_str(s, at) {
+        ReadText::Text { start, len, next } => {
+            if is_utf8(s, start, len) {
+                return ReadText::Text { start, len, next };
+            }
+            ReadText::Refused(Refusal::BadString)
+        }
+        ReadText::Refused(r) => ReadText::Refused(r),
     }
 }
 

@@ -8,11 +8,11 @@ take-name-requires c κs = search needs
 returns : tie.Need-returns
 returns c = simp (c .before .if1 .taken, c .take-name .ensures)
 
-skim-name-requires : tie.Need-skim-name-requires
-skim-name-requires c κs = search needs
+skim-str-requires : tie.Need-skim-str-requires
+skim-str-requires c κs = search needs
 
 returns-2 : tie.Need-returns-2
-returns-2 c = simp (c .before .if1 .left, c .skim-name .ensures)
+returns-2 c = simp (c .before .if1 .left, c .skim-str .ensures)
 
 pub read-name-spec : {M : Type 1} → statement M
-read-name-spec = tie.close (tie.spec take-name-requires returns skim-name-requires returns-2)
+read-name-spec = tie.close (tie.spec take-name-requires returns skim-str-requires returns-2)

@@ -1,7 +1,7 @@
 use borrow.Author.Tests.{lt-ltb, le-ltb}
 use borrow.Author.Needs.{needs}
-use Rattle.desc.proofs.head.span_of.Statement.{statement}
-use Rattle.desc.proofs.head.span_of.Tie as tie
+use Rattle.varint.proofs.text.span_of.Statement.{statement}
+use Rattle.varint.proofs.text.span_of.Tie as tie
 
 sub-available : tie.Need-sub-available
 sub-available c = search needs
