@@ -12,7 +12,7 @@ use Rattle.varint.specs.Stores.{clearFrom, filled}
 use Rattle.varint.specs.declared.error.Buffer.the-variants.{Text, Nodes}
 use Rattle.varint.specs.declared.error.Refusal.{Refusal}
 use Rattle.varint.specs.declared.error.Refusal.the-variants.{BlockTooLarge, TooSmall}
-use Rattle.varint.proofs.StoreLaws.{filled-cleared}
+use Rattle.varint.proofs.StoreLaws.{filled-steps}
 use Rattle.desc.specs.declared.DescAnswer.the-variants.{Accepted}
 use Rattle.desc.specs.declared.Walked.{Walked}
 use Rattle.desc.specs.declared.Walked.the-variants.{Read, Refused as NotRead}
@@ -51,22 +51,23 @@ module _ (tx rs nd : List ℕ) where
       rw (a, f, b) refl
 
   settle-done : (D E : Got (Tree (List ℕ))) → ((tr : Tree (List ℕ)) (q : ℕ) → D ≡ got tr q → E ≡ got tr q)
-      → (q t m end : ℕ) (r : Walked) (tx₀ rs₀ nd₀ tx′ nd′ : List ℕ) → measured D ≡ Read q t m → t ≤ length tx → m * width ≤ length nd
-      → tx₀ ≡ clearFrom tx 0 → rs₀ ≡ clearFrom rs 0 → nd₀ ≡ clearFrom nd 0 → Agrees (outcome E tx₀ 0 nd₀ 0 (0, 0) 0) end r tx′ nd′
-      → record { answer = Accepted q; text = tx′; rows = rs₀; nodes = nd′ } ≡ settled D tx rs nd
+      → (q t m end : ℕ) (r : Walked) (tx′ nd′ tx₁ rs₁ nd₁ : List ℕ) → measured D ≡ Read q t m → t ≤ length tx → m * width ≤ length nd
+      → Agrees (outcome E tx 0 nd 0 (0, 0) 0) end r tx′ nd′ → tx₁ ≡ clearFrom tx′ t → rs₁ ≡ clearFrom rs 0 → nd₁ ≡ clearFrom nd′ (m * width)
+      → record { answer = Accepted q; text = tx₁; rows = rs₁; nodes = nd₁ } ≡ settled D tx rs nd
   unfolding measured settled storedAs Agrees outcome
-  settle-done (bad x) E same q t m end r tx₀ rs₀ nd₀ tx′ nd′ h l k z₁ z₂ z₃ w = let z : _≡_ {A = ℕ} 0 1 = cc in absurd (omega arith)
-  settle-done (got tr o) E same q t m end r tx₀ rs₀ nd₀ tx′ nd′ h l k z₁ z₂ z₃ w =
+  settle-done (bad x) E same q t m end r tx′ nd′ tx₁ rs₁ nd₁ h l k w z₁ z₂ z₃ = let z : _≡_ {A = ℕ} 0 1 = cc in absurd (omega arith)
+  settle-done (got tr o) E same q t m end r tx′ nd′ tx₁ rs₁ nd₁ h l k w z₁ z₂ z₃ =
       let e : t ≡ length (texts tr) = cc in
       let f : m ≡ size tr = cc in
       let g : q ≡ o = cc in
       let a : ltb (length tx) (length (texts tr)) ≡ false = le-ltb (length tx) (length (texts tr)) (omega arith) in
       let b : ltb (length nd) (size tr * width) ≡ false = le-ltb (length nd) (size tr * width) (omega arith) in
-      let v : Agrees (outcome (got tr o) tx₀ 0 nd₀ 0 (0, 0) 0) end r tx′ nd′ = rw (same tr o refl) at w in
-      let x : tx′ ≡ filled tx (texts tr) = v .1 ∙ rw z₁ (filled-cleared tx (texts tr) (omega arith)) in
+      let v : Agrees (outcome (got tr o) tx 0 nd 0 (0, 0) 0) end r tx′ nd′ = rw (same tr o refl) at w in
+      let x : tx₁ ≡ filled tx (texts tr) = z₁ ∙ rw (v .1, e) (filled-steps tx (texts tr) (omega arith)) in
       let N = rows (placed tr 0) 0 (0, 0) 0 in
-      let y : nd′ ≡ filled nd N = v .2 ∙ rw z₃ (filled-cleared nd N (omega (arith, length-placed tr 0 0 (0, 0) 0))) in
-      let u : rs₀ ≡ filled rs [] = z₂ ∙ filled-cleared rs [] (omega arith) in
+      let n : length N ≡ size tr * width = length-placed tr 0 0 (0, 0) 0 in
+      let y : nd₁ ≡ filled nd N = z₃ ∙ rw (v .2, f, ← n) (filled-steps nd N (omega arith)) in
+      let u : rs₁ ≡ filled rs [] = z₂ ∙ filled-steps rs [] (omega arith) in
       rw (a, b, g, x, y, u) refl
 
   module _ (max limit : ℕ) (s : List ℕ) where
@@ -92,11 +93,11 @@ module _ (tx rs nd : List ℕ) where
         → Decoded (kept (TooSmall Nodes (m * width)) tx rs nd)
     decode-nodes q t m b h l k = settle-nodes (desc true limit limit s 0) q t m h l k ∙ settles b
 
-    pub decode-done : (q t m end : ℕ) (r : Walked) (tx₀ rs₀ nd₀ tx′ nd′ : List ℕ)
+    pub decode-done : (q t m end : ℕ) (r : Walked) (tx′ nd′ tx₁ rs₁ nd₁ : List ℕ)
         → length s ≤ max → measured (desc true limit limit s 0) ≡ Read q t m
-        → t ≤ length tx → m * width ≤ length nd → tx₀ ≡ clearFrom tx 0 → rs₀ ≡ clearFrom rs 0 → nd₀ ≡ clearFrom nd 0
-        → Agrees (outcome (desc false limit limit s 0) tx₀ 0 nd₀ 0 (0, 0) 0) end r tx′ nd′
-        → Decoded (record { answer = Accepted q; text = tx′; rows = rs₀; nodes = nd′ })
-    decode-done q t m end r tx₀ rs₀ nd₀ tx′ nd′ b h l k z₁ z₂ z₃ w =
+        → t ≤ length tx → m * width ≤ length nd → Agrees (outcome (desc false limit limit s 0) tx 0 nd 0 (0, 0) 0) end r tx′ nd′
+        → tx₁ ≡ clearFrom tx′ t → rs₁ ≡ clearFrom rs 0 → nd₁ ≡ clearFrom nd′ (m * width)
+        → Decoded (record { answer = Accepted q; text = tx₁; rows = rs₁; nodes = nd₁ })
+    decode-done q t m end r tx′ nd′ tx₁ rs₁ nd₁ b h l k w z₁ z₂ z₃ =
         settle-done (desc true limit limit s 0) (desc false limit limit s 0) (desc-skims limit limit s 0)
-        q t m end r tx₀ rs₀ nd₀ tx′ nd′ h l k z₁ z₂ z₃ w ∙ settles b
+        q t m end r tx′ nd′ tx₁ rs₁ nd₁ h l k w z₁ z₂ z₃ ∙ settles b

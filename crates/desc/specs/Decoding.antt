@@ -76,7 +76,7 @@ unfoldable pub decodeDesc : (max limit : ℕ) → List ℕ → List ℕ → List
 decodeDesc max limit s tx rs nd =
     pick (ltb max (length s)) (kept (BlockTooLarge (length s) max) tx rs nd) (settled (desc true limit limit s 0) tx rs nd)
 
--- into buffers of four bytes, one number and eight: all of them dirty before
+-- into two bytes, one number and fifteen, all of them dirty before
 example-decoded : decodeDesc 67108864 64 (0x04 ∷ 0x01 ∷ 0x01 ∷ 0x78 ∷ 0x09 ∷ 0x00 ∷ 0xFF ∷ []) (9 ∷ 9 ∷ []) (9 ∷ []) (9 ∷ 9 ∷ 9 ∷ 9 ∷ 9 ∷ 9 ∷ 9 ∷ 9 ∷ 9 ∷ 9 ∷ 9 ∷ 9 ∷ 9 ∷ 9 ∷ 9 ∷ [])
     ≡ record { answer = Accepted 6; text = 0x78 ∷ 0 ∷ []; rows = 0 ∷ []; nodes = 4 ∷ 0 ∷ 0 ∷ 0 ∷ 0 ∷ 1 ∷ 2 ∷ 0 ∷ 0 ∷ 1 ∷ 9 ∷ 0 ∷ 0 ∷ 2 ∷ 0 ∷ [] }
 unfolding decodeDesc settled filled desc children headAt labelAt getU64 readFrom getName getText skimText utf8 scan lead part texts placed rows size kidCount

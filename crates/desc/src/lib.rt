@@ -255,10 +255,10 @@ fn decode_within(
                     needed: numbers as u64,
                 });
             }
-            clear_bytes(text, 0);
-            clear_numbers(rows, 0);
-            clear_numbers(nodes, 0);
             walk(payload, 0, limit, limit, false, text, 0, nodes, 0, 0, 0, 0);
+            clear_bytes(text, t);
+            clear_numbers(rows, 0);
+            clear_numbers(nodes, numbers);
             DescAnswer::Accepted { used: next }
         }
         Walked::Refused(e) => DescAnswer::Refused(e),

@@ -34,6 +34,9 @@ returns-3 c =
     let a = c .before .before .before .before .before .before .before .before .before .before .before .args in
     decode-nodes (now (a .text)) (now (a .rows)) (now (a .nodes)) (a .max) (a .limit) (now (a .payload)) _ _ _ (c .before .before .before .before .before .before .if1 .left) (sym (c .before .before .before .before .before .measure-desc .ensures) ∙ c .before .before .before .next .given .1) (c .before .if2 .left) (c .if3 .taken)
 
+walk-requires : tie.Need-walk-requires
+walk-requires c κs = search needs
+
 clear-bytes-requires : tie.Need-clear-bytes-requires
 clear-bytes-requires c κs = search needs
 
@@ -42,9 +45,6 @@ clear-numbers-requires c κs = search needs
 
 clear-numbers-requires-2 : tie.Need-clear-numbers-requires-2
 clear-numbers-requires-2 c κs = search needs
-
-walk-requires : tie.Need-walk-requires
-walk-requires c κs = search needs
 
 enum-known-e : tie.Need-enum-known-e
 enum-known-e c = search needs
@@ -61,7 +61,7 @@ same-length-3 c = search needs
 returns-4 : tie.Need-returns-4
 returns-4 c =
     let a = c .before .before .before .before .before .before .before .before .before .before .before .before .before .before .before .before .before .before .before .before .before .before .before .before .before .before .before .before .before .before .args in
-    decode-done (now (a .text)) (now (a .rows)) (now (a .nodes)) (a .max) (a .limit) (now (a .payload)) _ _ _ _ _ _ _ _ _ _ (c .before .before .before .before .before .before .before .before .before .before .before .before .before .before .before .before .before .before .before .before .before .before .before .before .before .if1 .left) (sym (c .before .before .before .before .before .before .before .before .before .before .before .before .before .before .before .before .before .before .before .before .before .before .before .before .measure-desc .ensures) ∙ c .before .before .before .before .before .before .before .before .before .before .before .before .before .before .before .before .before .before .before .before .before .before .next .given .1) (c .before .before .before .before .before .before .before .before .before .before .before .before .before .before .before .before .before .before .before .before .if2 .left) (c .before .before .before .before .before .before .before .before .before .before .before .before .before .before .before .before .before .before .before .if3 .left) (c .before .before .before .before .before .before .before .before .before .before .before .before .before .before .before .before .before .clear-bytes .ensures) (c .before .before .before .before .before .before .before .before .before .before .before .before .before .clear-numbers .ensures) (c .before .before .before .before .before .before .before .before .before .clear-numbers2 .ensures) (c .before .before .before .before .walk .ensures)
+    decode-done (now (a .text)) (now (a .rows)) (now (a .nodes)) (a .max) (a .limit) (now (a .payload)) _ _ _ _ _ _ _ _ _ _ (c .before .before .before .before .before .before .before .before .before .before .before .before .before .before .before .before .before .before .before .before .before .before .before .before .before .if1 .left) (sym (c .before .before .before .before .before .before .before .before .before .before .before .before .before .before .before .before .before .before .before .before .before .before .before .before .measure-desc .ensures) ∙ c .before .before .before .before .before .before .before .before .before .before .before .before .before .before .before .before .before .before .before .before .before .before .next .given .1) (c .before .before .before .before .before .before .before .before .before .before .before .before .before .before .before .before .before .before .before .before .if2 .left) (c .before .before .before .before .before .before .before .before .before .before .before .before .before .before .before .before .before .before .before .if3 .left) (c .before .before .before .before .before .before .before .before .before .before .before .before .before .before .before .before .walk .ensures) (c .before .before .before .before .before .before .before .before .before .before .clear-bytes .ensures) (c .before .before .before .before .before .before .clear-numbers .ensures) (c .before .before .clear-numbers2 .ensures)
 
 returns-5 : tie.Need-returns-5
 returns-5 c =
@@ -78,10 +78,10 @@ decode-within-spec =
     returns-2
     mul-numbers
     returns-3
+    walk-requires
     clear-bytes-requires
     clear-numbers-requires
     clear-numbers-requires-2
-    walk-requires
     enum-known-e
     same-length
     same-length-2
