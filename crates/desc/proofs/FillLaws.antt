@@ -1,10 +1,9 @@
 -- What filling leaves of text and nodes, from what the walk tells.
-use mathlib.Core.Bool.{false, and-false}
+use mathlib.Core.Bool.{false}
 use mathlib.Core.Path.{_≡_, refl}
 use mathlib.Core.List.{List}
 use Prim.Native.Nat.{ℕ, _+_, _≤_, _<_}
 use native.Mathlib.Omega.{arith}
-use lib.ListN.{length}
 use borrow.Author.Tests.{le-leb, lt-leb}
 use Rattle.varint.specs.Formats.{Got, got, bad}
 use Rattle.varint.specs.declared.error.Refusal.{Refusal}
@@ -29,11 +28,7 @@ module _ (tx : List ℕ) (t : ℕ) (nd : List ℕ) (n : ℕ) where
   all-stored (got tr o) q u m end r tx′ nd′ h a = rw (a .1, a .2) refl
 
   module _ (limit : ℕ) (s : List ℕ) (at : ℕ) where
-    -- nothing is stored from a place past the end, nor where less was read than is to be stored
-    pub fill-past : length s < at → record { text = tx; nodes = nd } ≡ fillDesc limit s at tx t nd n
-    unfolding fillDesc
-    fill-past h = simp (lt-leb at (length s) h, and-false)
-
+    -- nothing is stored where less was read than is to be stored
     pub fill-early : at < t + n → record { text = tx; nodes = nd } ≡ fillDesc limit s at tx t nd n
     unfolding fillDesc
     fill-early h = simp (lt-leb (t + n) at h)
@@ -45,9 +40,9 @@ module _ (tx : List ℕ) (t : ℕ) (nd : List ℕ) (n : ℕ) where
     fill-none e h = rw (none-stored (desc false limit limit s at) e h, pick-same) refl
 
     pub fill-done : (q u m end : ℕ) (r : Walked) (tx′ nd′ : List ℕ)
-        → measured (desc false limit limit s at) ≡ Read q u m → t + n ≤ at → at ≤ length s
+        → measured (desc false limit limit s at) ≡ Read q u m → t + n ≤ at
         → Agrees (outcome (desc false limit limit s at) tx t nd n (0, 0) 0) end r tx′ nd′
         → record { text = tx′; nodes = nd′ } ≡ fillDesc limit s at tx t nd n
     unfolding fillDesc
-    fill-done q u m end r tx′ nd′ h b c a =
-        rw (le-leb (t + n) at b, le-leb at (length s) c) (all-stored (desc false limit limit s at) q u m end r tx′ nd′ h a)
+    fill-done q u m end r tx′ nd′ h b a =
+        rw (le-leb (t + n) at b) (all-stored (desc false limit limit s at) q u m end r tx′ nd′ h a)

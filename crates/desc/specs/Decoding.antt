@@ -1,6 +1,6 @@
 -- Decoding a descriptor into lent memory: "Read alone, a descriptor is a message without rows: bytes after it are ignored, and the bytes
 -- used are given."
-use mathlib.Core.Bool.{true, false, _&&_}
+use mathlib.Core.Bool.{true, false}
 use mathlib.Core.Path.{_≡_, refl}
 use mathlib.Core.List.{List, [], _∷_}
 use Prim.Native.Nat.{ℕ, _+_, _*_}
@@ -47,7 +47,7 @@ filledBy (bad e) tx t nd n = record { text = tx; nodes = nd }
 -- node before it cost a byte before `at`, so t + n is at most `at`; where it is not, or no descriptor stands there, nothing is stored.
 unfoldable pub fillDesc : ℕ → List ℕ → ℕ → List ℕ → ℕ → List ℕ → ℕ → Stored
 fillDesc limit s at tx t nd n =
-    pick (leb (t + n) at && leb at (length s)) (filledBy (desc false limit limit s at) tx t nd n) (record { text = tx; nodes = nd })
+    pick (leb (t + n) at) (filledBy (desc false limit limit s at) tx t nd n) (record { text = tx; nodes = nd })
 
 -- an answer, and what was lent
 pub record Left : Type 0 where

@@ -61,7 +61,7 @@ fn walk(
     len: usize,
     discriminant: u64,
 ) -> Walked
-    requires { ⌜ (t + n ≤ at) × (at ≤ length (now s)) ⌝ }
+    requires { ⌜ t + n ≤ at ⌝ }
     ensures { λ r. ⌜ Agrees (outcome (desc check limit depth (now (s .entry)) at) (now (text .entry)) t (now (nodes .entry)) n (start, len) discriminant) (length (now (s .entry))) r (now (text .exit)) (now (nodes .exit)) ⌝ }
 {
     if depth == 0 {
@@ -145,22 +145,6 @@ fn measure_by(s: &[u8], at: usize, limit: u64, check: bool) -> Walked
 {
     let mut text = [0u8; 1];
     let mut nodes = [0u64; 1];
-    if s.len() < at {
-        return walk(
-            s,
-            s.len(),
-            limit,
-            limit,
-            check,
-            &mut text,
-            0,
-            &mut nodes,
-            0,
-            0,
-            0,
-            0,
-        );
-    }
     walk(
         s,
         at,
@@ -196,9 +180,6 @@ pub fn fill_desc(
 )
     ensures { λ _. ⌜ record { text = now (text .exit); nodes = now (nodes .exit) } ≡ fillDesc limit (now (s .entry)) at (now (text .entry)) t (now (nodes .entry)) n ⌝ }
 {
-    if s.len() < at {
-        return;
-    }
     if at < t {
         return;
     }

@@ -5,10 +5,10 @@ use native.Mathlib.Nat.{sub-zero}
 use borrow.Author.Needs.{needs}
 use denote.Ref.{now}
 use lib.ListN.{length}
-use Rattle.desc.specs.declared.head.Head.the-variants.{Branch}
+use Rattle.desc.specs.declared.head.Head.the-variants.{Leaf, Branch}
 use Rattle.desc.specs.declared.head.Label.the-variants.{Named}
 use Rattle.desc.specs.Reading.{headAt, labelAt, children, desc}
-use Rattle.desc.proofs.HeadLaws.{branch-inside, label-inside}
+use Rattle.desc.proofs.HeadLaws.{leaf-inside, branch-inside, label-inside}
 use Rattle.desc.proofs.Outcomes.{outcomeKids, agrees-read}
 use Rattle.desc.proofs.Turns.{turn, turn-label, turn-refused}
 use Rattle.desc.proofs.WalkLaws.{walk-deep, walk-bad, walk-leaf, walk-refused, walk-read}
@@ -60,7 +60,12 @@ walk-Inv-loop s at depth limit check text₀ t nodes₀ n start len discriminant
 abbrev walk-μ-loop : walk-lts.MeasureT-loop
 walk-μ-loop s at depth limit check text₀ t nodes₀ n start len discriminant tag count next i₀ p₀ q₀ m₀ text nodes i p q m = count - i
 
--- in a branch's arm: its start
+-- in the arm of a type without parts, and in a branch's: its start
+is-leaf : (t : ℕ) (c : walk-lts.After-known-told2 (claims t) (walk-at t) walk.Post walk-Inv-loop walk-μ-loop)
+    → headAt (now (c .before .before .before .before .before .before .before .before .args .s)) (c .before .before .before .before .before .before .before .before .args .at)
+    ≡ Leaf (c .before .tag .given .0 .0) (c .before .tag .given .0 .1 .0) (c .before .tag .given .0 .1 .1 .0)
+is-leaf t c = sym (c .before .before .before .read-head .ensures) ∙ c .before .tag .given .1
+
 is-branch : (t : ℕ) (c : walk-lts.After-known-told3 (claims t) (walk-at t) walk.Post walk-Inv-loop walk-μ-loop)
     → headAt (now (c .before .before .before .before .before .before .before .before .args .s)) (c .before .before .before .before .before .before .before .before .args .at)
     ≡ Branch (c .before .tag2 .given .0 .0) (c .before .tag2 .given .0 .1 .0) (c .before .tag2 .given .0 .1 .1 .0)
@@ -87,25 +92,34 @@ walk-enum-known-tag : (t : ℕ) → walk-lts.Need-enum-known-tag (claims t) (wal
 walk-enum-known-tag t c = search needs
 
 walk-add-store-node : (t : ℕ) → walk-lts.Need-add-store-node (claims t) (walk-at t) walk.Post walk-Inv-loop walk-μ-loop
-walk-add-store-node t c = search needs
+walk-add-store-node t c =
+    let h = leaf-inside _ _ _ _ _ (is-leaf t (c .before)) in
+    let h₀ = h .0 in
+    search needs
 
 walk-store-node-requires : (t : ℕ) → walk-lts.Need-store-node-requires (claims t) (walk-at t) walk.Post walk-Inv-loop walk-μ-loop
 walk-store-node-requires t c κs = search needs
 
 walk-add-t40 : (t : ℕ) → walk-lts.Need-add-t40 (claims t) (walk-at t) walk.Post walk-Inv-loop walk-μ-loop
-walk-add-t40 t c = search needs
+walk-add-t40 t c =
+    let h = leaf-inside _ _ _ _ _ (is-leaf t (c .before .before .before .before)) in
+    let h₀ = h .0 in
+    search needs
 
 walk-enum-known-tag-2 : (t : ℕ) → walk-lts.Need-enum-known-tag-2 (claims t) (walk-at t) walk.Post walk-Inv-loop walk-μ-loop
 walk-enum-known-tag-2 t c = search needs
 
 walk-add-m : (t : ℕ) → walk-lts.Need-add-m (claims t) (walk-at t) walk.Post walk-Inv-loop walk-μ-loop
-walk-add-m t c = search needs
+walk-add-m t c =
+    let h = branch-inside _ _ _ _ _ (is-branch t c) in
+    let h₀ = h .0 in
+    search needs
 
 walk-loop-holds : (t : ℕ) → walk-lts.Need-loop-holds (claims t) (walk-at t) walk.Post walk-Inv-loop walk-μ-loop
 walk-loop-holds t c =
-    let h = branch-inside _ _ _ _ _ (is-branch t (c)) in
+    let h = branch-inside _ _ _ _ _ (is-branch t c) in
     let h₀ = h .0 in
-    let p = c .before .before .before .before .before .before .before .before .pre .1 .0 in
+    let p = c .before .before .before .before .before .before .before .before .pre .1 in
     (omega arith, omega arith, h .1, refl, refl, rw sub-zero refl)
 
 walk-read-label-requires : (t : ℕ) → walk-lts.Need-read-label-requires (claims t) (walk-at t) walk.Post walk-Inv-loop walk-μ-loop
@@ -154,7 +168,7 @@ walk-walk-requires t c κs =
     let i = c .before .before .before .before .before .before .before .before .before .before .before .loop .inv .1 in
     let d = c .before .before .before .before .before .before .before .before .before .before .before .before .before .before .before .before .before .before .before .before .pre .0 in
     let z = c .before .before .before .before .before .before .before .before .before .before .before .before .before .before .before .before .if1 .left in
-    (omega arith, (omega arith, f .2))
+    (omega arith, omega arith)
 
 walk-enum-known-e-3 : (t : ℕ) → walk-lts.Need-enum-known-e-3 (claims t) (walk-at t) walk.Post walk-Inv-loop walk-μ-loop
 walk-enum-known-e-3 t c = search needs
@@ -214,7 +228,7 @@ walk-same-length-5 t c = search needs
 walk-returns-5 : (t : ℕ) → walk-lts.Need-returns-5 (claims t) (walk-at t) walk.Post walk-Inv-loop walk-μ-loop
 walk-returns-5 t c =
     let a = c .before .before .before .before .before .before .before .before .before .before .before .before .args in
-    walk-leaf (a .check) (a .limit) (a .depth) (now (a .s)) (a .at) (now (a .text)) (a .t) (now (a .nodes)) (a .n) (a .start, a .len) (a .discriminant) _ _ _ _ (c .before .before .before .before .before .before .before .before .if1 .left) (sym (c .before .before .before .before .before .before .before .read-head .ensures) ∙ c .before .before .before .before .before .tag .given .1) (c .before .before .before .before .before .before .before .before .before .before .before .before .pre .1 .0) (c .before .before .store-node .ensures)
+    walk-leaf (a .check) (a .limit) (a .depth) (now (a .s)) (a .at) (now (a .text)) (a .t) (now (a .nodes)) (a .n) (a .start, a .len) (a .discriminant) _ _ _ _ (c .before .before .before .before .before .before .before .before .if1 .left) (is-leaf t (c .before .before .before .before)) (c .before .before .before .before .before .before .before .before .before .before .before .before .pre .1) (c .before .before .store-node .ensures)
 
 walk-same-length-6 : (t : ℕ) → walk-lts.Need-same-length-6 (claims t) (walk-at t) walk.Post walk-Inv-loop walk-μ-loop
 walk-same-length-6 t c = search needs
