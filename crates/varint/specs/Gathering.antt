@@ -33,7 +33,7 @@ example-held : textHeld (0x61 ∷ 0x62 ∷ 0x63 ∷ []) 1 2 ≡ held (0x62 ∷ 0
 unfolding textHeld utf8 scan lead part
 example-held = refl
 
--- "also for length 0"
+-- an empty text past the end is past the end too (point 18 of docs/DECISIONS.md)
 example-past : textHeld (0x61 ∷ []) 2 0 ≡ lacks (BadMessage Texts)
 unfolding textHeld
 example-past = refl
