@@ -7,7 +7,7 @@ mod node;
 pub mod write;
 
 ghost use mathlib.Core.Path.{_≡_};
-ghost use mathlib.Core.Bool.{true};
+ghost use mathlib.Core.Bool.{true, false};
 ghost use Prim.Native.Nat.{_+_, _≤_};
 ghost use lib.ListN.{length};
 ghost use Rattle.desc.specs.Decoding.{measured, fillDesc, decodeDesc};
@@ -168,7 +168,8 @@ pub fn measure_desc(s: &[u8], at: usize, limit: u64) -> Walked
     measure_by(s, at, limit, true)
 }
 
-// Stores the descriptor at place `at`, which was measured before: its texts from place t of text on, its nodes from node n on.
+// Stores the descriptor at place `at`, which was measured before: its texts from place t of text on, its nodes from node n on. It is measured again on
+// the way, its names only found, and the answer is that of `measure_desc`.
 pub fn fill_desc(
     s: &[u8],
     at: usize,
@@ -177,24 +178,37 @@ pub fn fill_desc(
     t: usize,
     nodes: &mut [u64],
     n: usize,
-)
-    ensures { λ _. ⌜ record { text = now (text .exit); nodes = now (nodes .exit) } ≡ fillDesc limit (now (s .entry)) at (now (text .entry)) t (now (nodes .entry)) n ⌝ }
+) -> Walked
+    ensures { λ r. ⌜ (r ≡ measured (desc false limit limit (now (s .entry)) at)) × (record { text = now (text .exit); nodes = now (nodes .exit) } ≡ fillDesc limit (now (s .entry)) at (now (text .entry)) t (now (nodes .entry)) n) ⌝ }
 {
-    if at < t {
-        return;
-    }
-    if at - t < n {
-        return;
-    }
     match measure_by(s, at, limit, false) {
         Walked::Read {
-            next: _,
-            text: _,
-            nodes: _,
+            next,
+            text: size,
+            nodes: count,
         } => {
+            if at < t {
+                return Walked::Read {
+                    next,
+                    text: size,
+                    nodes: count,
+                };
+            }
+            if at - t < n {
+                return Walked::Read {
+                    next,
+                    text: size,
+                    nodes: count,
+                };
+            }
             walk(s, at, limit, limit, false, text, t, nodes, n, 0, 0, 0);
+            Walked::Read {
+                next,
+                text: size,
+                nodes: count,
+            }
         }
-        Walked::Refused(_) => {}
+        Walked::Refused(e) => Walked::Refused(e),
     }
 }
 

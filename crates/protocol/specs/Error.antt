@@ -1,0 +1,37 @@
+-- 3 error: "code, text; bytes after ignored".
+use mathlib.Core.Bool.{Bool}
+use mathlib.Core.List.{List}
+use Prim.Native.Nat.{ℕ}
+use Rattle.varint.specs.Formats.{Got, Format, _⊗_, named}
+use Rattle.varint.specs.Gathering.{Held, held, thenHeld, textHeld}
+use Rattle.protocol.specs.Fields.{text, errorCode}
+use Rattle.protocol.specs.Laying.{Laid, spanOf}
+use Rattle.protocol.specs.Pieces.{words}
+use Rattle.protocol.specs.declared.message.ErrorCode.{ErrorCode}
+use Rattle.protocol.specs.declared.message.Span.{Span}
+use Rattle.protocol.specs.declared.message.Message.the-variants as Msg
+
+pub record Error : Type 0 where
+  pub code : ErrorCode
+  pub text : List ℕ
+
+abbrev pub toError : ErrorCode × List ℕ → Error
+toError c = record { code = c .0; text = c .1 }
+
+abbrev pub fromError : Error → ErrorCode × List ℕ
+fromError m = (m .code, m .text)
+
+abbrev pub error : Bool → Format Error
+error check =
+    named toError fromError
+    (errorCode
+    ⊗ text check)
+
+unfoldable pub readError : Bool → List ℕ → Got Error
+readError check s = error check .read s 0
+
+unfoldable pub layError : Error → Laid
+layError m = record { message = Msg.Error (m .code) (spanOf 0 (m .text)); piece = words (m .text) }
+
+unfoldable pub heldError : ErrorCode → Span → List ℕ → Held Error
+heldError code span tx = thenHeld (textHeld tx (span .start) (span .len)) (λ x. held (record { code = code; text = x }))

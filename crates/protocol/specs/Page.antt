@@ -1,0 +1,54 @@
+-- 10 page: "limit in 8 bytes, cursor length in 4, little-endian, cursor, then query; short is 1".
+use mathlib.Core.Bool.{Bool}
+use mathlib.Core.List.{List}
+use Prim.Native.Nat.{ℕ, _+_}
+use lib.Dec.{ltb}
+use lib.ListN.{length}
+use Rattle.varint.specs.Choice.{pick}
+use Rattle.varint.specs.Formats.{Got, Format, fixed, _⊗_, named}
+use Rattle.varint.specs.Gathering.{Held, held, lacks, thenHeld, textHeld}
+use Rattle.varint.specs.Stores.{part}
+use Rattle.varint.specs.declared.error.Fault.the-variants.{Texts}
+use Rattle.varint.specs.declared.error.Refusal.the-variants.{BadMessage}
+use Rattle.protocol.specs.Fields.{raw, toEnd}
+use Rattle.protocol.specs.Laying.{Laid, spanOf}
+use Rattle.protocol.specs.Pieces.{words, _⊕_}
+use Rattle.protocol.specs.declared.message.Span.{Span}
+use Rattle.protocol.specs.declared.message.Message.the-variants as Msg
+
+pub record Page : Type 0 where
+  pub limit : ℕ
+  pub cursor : List ℕ
+  pub query : List ℕ
+
+abbrev pub toPage : ℕ × (List ℕ × List ℕ) → Page
+toPage c = record { limit = c .0; cursor = c .1 .0; query = c .1 .1 }
+
+abbrev pub fromPage : Page → ℕ × (List ℕ × List ℕ)
+fromPage m = (m .limit, (m .cursor, m .query))
+
+abbrev pub page : Bool → Format Page
+page check =
+    named toPage fromPage
+    (fixed 8
+    ⊗ raw
+    ⊗ toEnd check)
+
+unfoldable pub readPage : Bool → List ℕ → Got Page
+readPage check s = page check .read s 0
+
+unfoldable pub layPage : Page → Laid
+layPage m =
+    record {
+      message = Msg.Page (m .limit) (spanOf 0 (m .cursor)) (spanOf (length (m .cursor)) (m .query));
+      piece = words (m .cursor) ⊕ words (m .query);
+    }
+
+-- "the page's cursor is kept as one but never checked for UTF-8"
+unfoldable pub rawHeld : List ℕ → ℕ → ℕ → Held (List ℕ)
+rawHeld tx start len = pick (ltb (length tx) (start + len)) (lacks (BadMessage Texts)) (held (part tx start len))
+
+unfoldable pub heldPage : ℕ → Span → Span → List ℕ → Held Page
+heldPage limit cursor query tx =
+    thenHeld (rawHeld tx (cursor .start) (cursor .len))
+    (λ c. thenHeld (textHeld tx (query .start) (query .len)) (λ x. held (record { limit = limit; cursor = c; query = x })))
