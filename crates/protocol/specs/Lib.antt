@@ -1,5 +1,6 @@
 pub mod Codes
 pub mod Fields
+pub mod FieldsRead
 pub mod Pieces
 pub mod Wholes
 pub mod Laying
@@ -18,5 +19,6 @@ pub mod Fetch
 pub mod Listing
 pub mod Rows
 pub mod Said
+pub mod Loading
 pub mod Decoding
 pub mod Encoding

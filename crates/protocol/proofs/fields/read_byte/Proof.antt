@@ -1,0 +1,24 @@
+use mathlib.Core.Path.{_≡_, refl, sym, _∙_, ap}
+use native.Mathlib.Omega.{arith}
+use borrow.Author.Tests.{lt-ltb, le-ltb, eq-eqb, ne-eqb}
+use Rattle.protocol.specs.FieldsRead.{gotByte, gotMode, gotCode, gotOp, gotFlag}
+use borrow.Author.Needs.{needs}
+use Rattle.protocol.proofs.fields.read_byte.Statement.{statement}
+use Rattle.protocol.proofs.fields.read_byte.Tie as tie
+use Rattle.protocol.proofs.fields.read_byte.Reads as reads
+use Rattle.protocol.proofs.fields.read_byte.Lts as lts
+
+shared-slice-read-t7 : tie.Need-shared-slice-read-t7
+shared-slice-read-t7 c = search needs
+
+add-t8 : tie.Need-add-t8
+add-t8 c = search needs
+
+returns : tie.Need-returns
+returns c = simp (lt-ltb _ _ (c .before .if1 .taken))
+
+returns-2 : tie.Need-returns-2
+returns-2 c = simp (le-ltb _ _ (c .if1 .left))
+
+pub read-byte-spec : {M : Type 1} → statement M
+read-byte-spec = tie.close (tie.spec shared-slice-read-t7 add-t8 returns returns-2)

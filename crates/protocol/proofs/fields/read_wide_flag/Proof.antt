@@ -1,0 +1,29 @@
+use mathlib.Core.Path.{_≡_, refl, sym, _∙_, ap}
+use native.Mathlib.Omega.{arith}
+use borrow.Author.Tests.{lt-ltb, le-ltb, eq-eqb, ne-eqb}
+use Rattle.protocol.specs.FieldsRead.{gotByte, gotMode, gotCode, gotOp, gotFlag}
+use borrow.Author.Needs.{needs}
+use Rattle.protocol.proofs.fields.read_wide_flag.Statement.{statement}
+use Rattle.protocol.proofs.fields.read_wide_flag.Tie as tie
+use Rattle.protocol.proofs.fields.read_wide_flag.Reads as reads
+use Rattle.protocol.proofs.fields.read_wide_flag.Lts as lts
+use Rattle.varint.proofs.get_u64.Reads as get-u64-reads
+
+get-u64-requires : tie.Need-get-u64-requires
+get-u64-requires c κs = search needs
+
+enum-known-r : tie.Need-enum-known-r
+enum-known-r c = search needs
+
+enum-known-value : tie.Need-enum-known-value
+enum-known-value c = search needs
+
+returns : tie.Need-returns
+returns c = simp (sym (c .before .before .before .get-u64 .ensures) ∙ c .before .r .given .1)
+
+returns-2 : tie.Need-returns-2
+returns-2 c = simp (sym (c .before .before .before .get-u64 .ensures) ∙ c .before .value .given .1)
+
+pub read-wide-flag-spec : {M : Type 1} → statement M
+read-wide-flag-spec =
+    tie.close (tie.spec get-u64-requires enum-known-r enum-known-value returns returns-2)
