@@ -14,7 +14,7 @@ use Rattle.varint.proofs.StoreLaws.{length-part}
 use Rattle.varint.proofs.TextLaws.{TextEnds, skim-ends, text-skims}
 use Rattle.desc.specs.Reading.{nameBy}
 use Rattle.protocol.specs.Fields.{textBy}
-use Rattle.protocol.specs.Loading.{textLeft}
+use Rattle.protocol.specs.Loading.{stored, textLeft}
 
 module _ (s tx : List ℕ) (t : ℕ) where
   -- the first reading leaves the text alone
@@ -29,6 +29,11 @@ module _ (s tx : List ℕ) (t : ℕ) where
     pub found : {tx′ : List ℕ} {f : ReadText} → check ≡ false → f ≡ by false → r ≡ f → tx′ ≡ textLeft false s f tx t
         → (r ≡ by check) × (tx′ ≡ textLeft check s r tx t)
     found c e g h = rw (c, g) (e, h)
+
+-- what the text is after one was read
+pub left-of : (check : Bool) (s tx : List ℕ) (t : ℕ) {tx′ : List ℕ} {start n q : ℕ} {r : ReadText} → tx′ ≡ textLeft check s r tx t → r ≡ Text start n q
+    → tx′ ≡ stored check tx t (part s start n)
+left-of check s tx t h e = h ∙ ap (λ (x : ReadText). textLeft check s x tx t) e
 
 -- where a name or text that was read lies
 pub record At (s : List ℕ) (at start n q : ℕ) : Type 0 where

@@ -1,6 +1,7 @@
 -- A message's two readings: the first checks it and tells how much memory it takes, the second stores it. Both are one function, so this says
 -- what each of its parts answers and leaves in memory. Where a reading is refused, what it left is not told: the first is lent memory of its own.
-use mathlib.Core.Bool.{Bool}
+use mathlib.Core.Bool.{Bool, true, false}
+use mathlib.Core.Path.{_≡_}
 use mathlib.Core.List.{List}
 use Prim.Native.Nat.{ℕ, _+_, _*_, _≤_}
 use lib.ListN.{length}
@@ -11,7 +12,9 @@ use Rattle.varint.specs.declared.error.Refusal.{Refusal}
 use Rattle.varint.specs.Stores.{part}
 use Rattle.varint.specs.declared.text.ReadText.{ReadText}
 use Rattle.varint.specs.declared.text.ReadText.the-variants as T
+use Rattle.desc.specs.Decoding.{Stored, filledBy}
 use Rattle.desc.specs.Layout.{width}
+use Rattle.desc.specs.Trees.{Tree}
 use Rattle.desc.specs.declared.Walked.{Walked}
 use Rattle.desc.specs.declared.Walked.the-variants as W
 use Rattle.protocol.specs.Fetch.{pair}
@@ -24,6 +27,8 @@ use Rattle.protocol.specs.Types.{predicate, layPredicate}
 use Rattle.protocol.specs.declared.message.Message.{Message}
 use Rattle.protocol.specs.declared.message.RowKind.{RowKind}
 use Rattle.protocol.specs.declared.message.RowKind.the-variants as K
+use Rattle.protocol.specs.declared.rows.Flat.{Flat}
+use Rattle.protocol.specs.declared.rows.Flat.the-variants as L
 use Rattle.protocol.specs.declared.read.Found.{Found}
 use Rattle.protocol.specs.declared.read.Found.the-variants as F
 
@@ -79,6 +84,33 @@ loadRows K.Pair check limit count s at m = load check (many layId) (readTimes pa
 unfoldable pub toldRow : ℕ → Walked → List ℕ → List ℕ → List ℕ → Loaded
 toldRow r (W.Read next t n) tx rs nd = loaded next (record { text = tx; t = t; rows = rs; r = r; nodes = nd; n = n })
 toldRow r (W.Refused e) tx rs nd = failed e
+
+-- a row without nodes, with the memory after it
+unfoldable pub toldFlat : ℕ → Flat → List ℕ → List ℕ → List ℕ → ℕ → Loaded
+toldFlat r (L.Read next t) tx rs nd n = loaded next (record { text = tx; t = t; rows = rs; r = r; nodes = nd; n = n })
+toldFlat r (L.Refused e) tx rs nd n = failed e
+
+-- A row that stands in so many numbers from r on, its texts from place t on, is loaded as it was read, whatever the nodes.
+pub record LoadsFlat {A : Type 0} (check : Bool) (piece : A → Piece) (g : Got A) (tx : List ℕ) (t : ℕ) (rs : List ℕ) (r w : ℕ) (x : Flat) (tx′ rs′ : List ℕ) : Type 0 where
+  pub is : (nd : List ℕ) (n : ℕ)
+      → toldFlat (r + w) x tx′ rs′ nd n ≡ load check piece g (record { text = tx; t = t; rows = rs; r = r; nodes = nd; n = n })
+
+-- so of a row without texts, whatever the text
+pub record LoadsCells {A : Type 0} (check : Bool) (piece : A → Piece) (g : Got A) (t : ℕ) (rs : List ℕ) (r w : ℕ) (x : Flat) (rs′ : List ℕ) : Type 0 where
+  pub is : (tx : List ℕ) → LoadsFlat check piece g tx t rs r w x tx rs′
+
+abbrev pub beside : Flat → ℕ → Walked
+beside (L.Read next t) n = W.Read next t n
+beside (L.Refused e) n = W.Refused e
+
+-- A part with nodes and without rows is loaded as it was read, whatever the rows.
+pub record LoadsNodes {A : Type 0} (check : Bool) (piece : A → Piece) (g : Got A) (tx : List ℕ) (t : ℕ) (nd : List ℕ) (n : ℕ) (x : Walked) (tx′ nd′ : List ℕ) : Type 0 where
+  pub is : (rs : List ℕ) (r : ℕ) → toldRow r x tx′ rs nd′ ≡ load check piece g (record { text = tx; t = t; rows = rs; r = r; nodes = nd; n = n })
+
+-- what a descriptor leaves of text and nodes
+abbrev pub descLeft : Bool → Got (Tree (List ℕ)) → List ℕ → ℕ → List ℕ → ℕ → Stored
+descLeft true g tx t nd n = record { text = tx; nodes = nd }
+descLeft false g tx t nd n = filledBy g tx t nd n
 
 -- Rows that end at `next` took so much of the bytes that nothing overflows.
 unfoldable pub Within : List ℕ → ℕ → Walked → Type 0

@@ -2,3 +2,4 @@
 mod fields;
 pub mod message;
 mod read;
+mod rows;
