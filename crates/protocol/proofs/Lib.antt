@@ -1,7 +1,9 @@
 pub mod DescLoads
+pub mod FieldEnds
 pub mod PairReads
 pub mod PieceLaws
 pub mod RowLoads
 pub mod RowReads
 pub mod RowStores
 pub mod TextsRead
+pub mod TypeLoads

@@ -2,12 +2,12 @@
 -- what each of its parts answers and leaves in memory. Where a reading is refused, what it left is not told: the first is lent memory of its own.
 use mathlib.Core.Bool.{Bool, true, false}
 use mathlib.Core.Path.{_≡_}
-use mathlib.Core.List.{List}
+use mathlib.Core.List.{List, [], _∷_}
 use Prim.Native.Nat.{ℕ, _+_, _*_, _≤_}
 use lib.ListN.{length}
 use lib.Seq.{sets}
 use Rattle.varint.specs.Choice.{pick}
-use Rattle.varint.specs.Formats.{Got, got, bad, then, varint, readTimes}
+use Rattle.varint.specs.Formats.{Got, got, bad, then, Format, varint, _⊗_, readTimes}
 use Rattle.varint.specs.declared.error.Refusal.{Refusal}
 use Rattle.varint.specs.Stores.{part}
 use Rattle.varint.specs.declared.text.ReadText.{ReadText}
@@ -18,12 +18,13 @@ use Rattle.desc.specs.Trees.{Tree}
 use Rattle.desc.specs.declared.Walked.{Walked}
 use Rattle.desc.specs.declared.Walked.the-variants as W
 use Rattle.protocol.specs.Fetch.{pair}
+use Rattle.protocol.specs.Fields.{bit, wideFlag, descriptor, Optional, optional}
 use Rattle.protocol.specs.Ids.{layId}
 use Rattle.protocol.specs.Laying.{Laid}
-use Rattle.protocol.specs.Pieces.{Piece, many}
+use Rattle.protocol.specs.Pieces.{Piece, cells, tree, _⊕_, many}
 use Rattle.protocol.specs.Profile.{step, layStep}
 use Rattle.protocol.specs.Startup.{claim, layClaim}
-use Rattle.protocol.specs.Types.{predicate, layPredicate}
+use Rattle.protocol.specs.Types.{predicate, hasValue, layValue, layPredicate}
 use Rattle.protocol.specs.declared.message.Message.{Message}
 use Rattle.protocol.specs.declared.message.RowKind.{RowKind}
 use Rattle.protocol.specs.declared.message.RowKind.the-variants as K
@@ -106,6 +107,13 @@ beside (L.Refused e) n = W.Refused e
 -- A part with nodes and without rows is loaded as it was read, whatever the rows.
 pub record LoadsNodes {A : Type 0} (check : Bool) (piece : A → Piece) (g : Got A) (tx : List ℕ) (t : ℕ) (nd : List ℕ) (n : ℕ) (x : Walked) (tx′ nd′ : List ℕ) : Type 0 where
   pub is : (rs : List ℕ) (r : ℕ) → toldRow r x tx′ rs nd′ ≡ load check piece g (record { text = tx; t = t; rows = rs; r = r; nodes = nd; n = n })
+
+-- What follows a type's name. The last three numbers of the type's row are told by it.
+abbrev pub sides : Bool → ℕ → Format (Bool × (Tree (List ℕ) × Optional (Tree (List ℕ))))
+sides check limit = wideFlag ⊗ descriptor check limit ⊗ optional (descriptor check limit)
+
+abbrev pub laySides : Bool × (Tree (List ℕ) × Optional (Tree (List ℕ))) → Piece
+laySides c = cells (λ t n. bit (c .0) ∷ bit (hasValue (c .1 .1)) ∷ n ∷ []) ⊕ tree (c .1 .0) ⊕ layValue (c .1 .1)
 
 -- what a descriptor leaves of text and nodes
 abbrev pub descLeft : Bool → Got (Tree (List ℕ)) → List ℕ → ℕ → List ℕ → ℕ → Stored

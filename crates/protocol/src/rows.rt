@@ -2,7 +2,7 @@
 // place t on, its numbers to rows from number r on, its nodes to nodes from node n on, in the reading that does not check.
 ghost use mathlib.Core.Path.{_≡_};
 ghost use mathlib.Core.List.{[], _∷_};
-ghost use Prim.Native.Nat.{_+_, _≤_};
+ghost use Prim.Native.Nat.{_+_, _*_, _≤_};
 ghost use lib.ListN.{length};
 ghost use Rattle.varint.specs.Formats.{varint};
 ghost use Rattle.desc.specs.Decoding.{measured};
@@ -10,14 +10,15 @@ ghost use Rattle.desc.specs.Reading.{desc};
 ghost use Rattle.protocol.specs.Fetch.{pair};
 ghost use Rattle.protocol.specs.Fields.{bit, descriptor, optionalOn};
 ghost use Rattle.protocol.specs.Ids.{idWidth, layId};
-ghost use Rattle.protocol.specs.Loading.{stored, LoadsFlat, LoadsCells, beside, LoadsNodes, descLeft, Within};
+ghost use Rattle.protocol.specs.Loading.{stored, LoadsFlat, LoadsCells, beside, LoadsNodes, descLeft, Within, load, toldRow, sides, laySides};
 ghost use Rattle.protocol.specs.Pieces.{tree};
 ghost use Rattle.protocol.specs.Profile.{step, stepWidth, layStep};
 ghost use Rattle.protocol.specs.Startup.{claim, claimWidth, layClaim};
-ghost use Rattle.protocol.specs.Types.{layValue};
+ghost use Rattle.protocol.specs.Types.{predicate, typeWidth, layPredicate, layValue};
 use crate::fields::ReadFlag;
 use crate::fields::read_flag;
 use crate::fields::read_name;
+use crate::fields::read_wide_flag;
 use desc::Walked;
 use desc::fill_desc;
 use desc::measure_desc;
@@ -223,6 +224,82 @@ fn read_value(
         next: at,
         text: t,
         nodes: n,
+    }
+}
+
+// What follows a type's name: virtual, key, has value, value. The key's root is node n.
+fn read_sides(
+    s: &[u8],
+    at: usize,
+    check: bool,
+    limit: u64,
+    text: &mut [u8],
+    t: usize,
+    rows: &mut [u64],
+    r: usize,
+    nodes: &mut [u64],
+    n: usize,
+) -> Walked
+    requires { ⌜ (t + n ≤ at) × (at ≤ length (now s)) ⌝ }
+    ensures { λ x. ⌜ toldRow (r + 3) x (now (text .exit)) (now (rows .exit)) (now (nodes .exit)) ≡ load check laySides (sides check limit .read (now (s .entry)) at) (record { text = now (text .entry); t = t; rows = now (rows .entry); r = r; nodes = now (nodes .entry); n = n }) ⌝ }
+{
+    match read_wide_flag(s, at) {
+        ReadFlag::Refused(e) => Walked::Refused(e),
+        ReadFlag::Flag {
+            yes: is_virtual,
+            next: p,
+        } => match read_desc(s, p, check, limit, text, t, nodes, n) {
+            Walked::Refused(e) => Walked::Refused(e),
+            Walked::Read {
+                next: q,
+                text: u,
+                nodes: m,
+            } => match read_wide_flag(s, q) {
+                ReadFlag::Refused(e) => Walked::Refused(e),
+                ReadFlag::Flag { yes: has, next: k } => {
+                    let first = flag_number(is_virtual);
+                    let second = flag_number(has);
+                    store_three(check, rows, r, first, second, n as u64);
+                    read_value(s, k, check, limit, has, text, u, nodes, m)
+                }
+            },
+        },
+    }
+}
+
+fn read_type(
+    s: &[u8],
+    at: usize,
+    check: bool,
+    limit: u64,
+    text: &mut [u8],
+    t: usize,
+    rows: &mut [u64],
+    r: usize,
+    nodes: &mut [u64],
+    n: usize,
+) -> Walked
+    requires { ⌜ (t + n ≤ at) × (at ≤ length (now s)) × (r ≤ 2 * at) ⌝ }
+    ensures { λ x. ⌜ toldRow (r + typeWidth) x (now (text .exit)) (now (rows .exit)) (now (nodes .exit)) ≡ load check layPredicate (predicate check limit .read (now (s .entry)) at) (record { text = now (text .entry); t = t; rows = now (rows .entry); r = r; nodes = now (nodes .entry); n = n }) ⌝ }
+{
+    match get_u64(s, at) {
+        ReadU64::Refused(e) => Walked::Refused(e),
+        ReadU64::Value { value: id, next: p } => {
+            if 0xFFFF_FFFF < id {
+                return Walked::Refused(Refusal::UnknownPredicate);
+            }
+            match read_name(s, p, check, text, t) {
+                ReadText::Refused(e) => Walked::Refused(e),
+                ReadText::Text {
+                    start: _,
+                    len,
+                    next: q,
+                } => {
+                    store_three(check, rows, r, id, t as u64, len as u64);
+                    read_sides(s, q, check, limit, text, t + len, rows, r + 3, nodes, n)
+                }
+            }
+        }
     }
 }
 
