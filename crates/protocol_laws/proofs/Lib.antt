@@ -1,1 +1,2 @@
 pub mod FieldsBack
+pub mod MessagesBack
