@@ -1,2 +1,3 @@
 pub mod FieldsBack
 pub mod MessagesBack
+pub mod FineHeld
