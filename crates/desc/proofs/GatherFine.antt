@@ -21,17 +21,18 @@ use Rattle.desc.specs.WellFormed.{Fine, FineKids}
 use Rattle.desc.proofs.GotAs.{GotAs}
 use Rattle.desc.proofs.TableSound.{Laid, table-laid}
 
-abbrev HeldAs : {A : Type 0} → (A → Type 0) → Held A → Type 0
+-- P holds of what is held
+abbrev pub HeldAs : {A : Type 0} → (A → Type 0) → Held A → Type 0
 HeldAs P (held a) = P a
 HeldAs P (lacks e) = Unit
 
 -- with what is held, go on
-then-held : {A B : Type 0} (P : A → Type 0) (Q : B → Type 0) (x : Held A) (k : A → Held B) → HeldAs P x → ((a : A) → P a → HeldAs Q (k a))
+pub then-held : {A B : Type 0} (P : A → Type 0) (Q : B → Type 0) (x : Held A) (k : A → Held B) → HeldAs P x → ((a : A) → P a → HeldAs Q (k a))
     → HeldAs Q (thenHeld x k)
 then-held P Q (held a) k h g = g a h
 then-held P Q (lacks e) k h g = tt
 
-name-held : (tx : List ℕ) (start len : ℕ) → length tx < 2 ^ 64 → HeldAs TextOk (nameHeld tx start len)
+pub name-held : (tx : List ℕ) (start len : ℕ) → length tx < 2 ^ 64 → HeldAs TextOk (nameHeld tx start len)
 unfolding nameHeld textHeld
 name-held tx start len h =
     pick-cases (HeldAs TextOk) (ltb (length tx) (start + len)) (λ _. tt)
@@ -66,12 +67,16 @@ mutual
       then-held (Fine TextOk depth) Q (gather tx st) _ t
       (λ u b. then-held (Parts tag depth (kidCount ks)) Q (gatherKids tx ks) _ o (λ l c. (ap suc (c .0), (a, f .1, b, c .1)))))
 
--- the tree that the memory holds is fine
-pub held-fine : (limit : ℕ) (tx nd : List ℕ) (tr : Tree (List ℕ)) → length tx < 2 ^ 64 → length nd < 2 ^ 64
-    → heldIn (table limit nd 0 0) tx ≡ held tr → Fine TextOk limit tr
+-- the tree that the memory holds from node n on is fine
+pub tree-held : (limit : ℕ) (tx nd : List ℕ) (n : ℕ) → length tx < 2 ^ 64 → length nd < 2 ^ 64
+    → HeldAs (Fine TextOk limit) (heldIn (table limit nd n 0) tx)
 unfolding heldIn
-held-fine limit tx nd tr h k e = rw e at (go (table limit nd 0 0) (table-laid limit nd 0 0))
+tree-held limit tx nd n h k = go (table limit nd n 0) (table-laid limit nd n 0)
   where
-    go : (x : Got (Tree Span)) → GotAs (Laid limit 0 nd 0) x → HeldAs (Fine TextOk limit) (heldIn x tx)
+    go : (x : Got (Tree Span)) → GotAs (Laid limit 0 nd n) x → HeldAs (Fine TextOk limit) (heldIn x tx)
     go (got st m) l = gather-fine st (λ _. Unit) limit tx h (l .fine k)
     go (bad i) l = tt
+
+pub held-fine : (limit : ℕ) (tx nd : List ℕ) (tr : Tree (List ℕ)) → length tx < 2 ^ 64 → length nd < 2 ^ 64
+    → heldIn (table limit nd 0 0) tx ≡ held tr → Fine TextOk limit tr
+held-fine limit tx nd tr h k e = rw e at (tree-held limit tx nd 0 h k)

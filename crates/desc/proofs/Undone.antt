@@ -73,7 +73,8 @@ pub record Decodes (max limit : ℕ) (tx nd x : List ℕ) : Type 0 where
   pub bytes : x ≡ print tree
   pub decodes : (tx′ rs nd′ : List ℕ) → decodeDesc max limit x tx′ rs nd′ ≡ settled (got tree (length x)) tx′ rs nd′
 
-not-wrote : {X : Type 0} {e : Refusal} {n : ℕ} → NotWritten e ≡ Wrote n → X
+-- what was refused was not written
+pub not-wrote : {X : Type 0} {e : Refusal} {n : ℕ} → NotWritten e ≡ Wrote n → X
 not-wrote h = let z : _≡_ {A = ℕ} 0 1 = cc in absurd (omega arith)
 
 abbrev Written-is : ℕ → ℕ → List ℕ → List ℕ → ℕ → Sent → Type 0

@@ -1,0 +1,4 @@
+pub mod FieldsBack
+pub mod MessagesBack
+pub mod FineHeld
+pub mod DecodeEncoded
