@@ -1,1 +1,2 @@
+pub mod FieldsForth
 pub mod MessageLines
