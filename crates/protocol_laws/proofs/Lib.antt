@@ -1,2 +1,3 @@
 pub mod FieldsForth
 pub mod MessageLines
+pub mod MessagesForth
