@@ -1,3 +1,4 @@
 pub mod FieldsForth
+pub mod HeldLaid
 pub mod MessageLines
 pub mod MessagesForth
