@@ -1,3 +1,4 @@
+pub mod EncodeDecoded
 pub mod FieldsForth
 pub mod HeldLaid
 pub mod MessageLines
