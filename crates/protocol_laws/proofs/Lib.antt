@@ -3,3 +3,4 @@ pub mod FieldsForth
 pub mod HeldLaid
 pub mod MessageLines
 pub mod MessagesForth
+pub mod Sizes
