@@ -6,10 +6,11 @@ use Prim.Native.Nat.{ℕ, _-_}
 use native.Mathlib.Omega.{arith}
 use lib.Dec.{ltb}
 use lib.ListN.{length, replicate}
-use borrow.Author.Tests.{ltb-false}
+use borrow.Author.Tests.{ltb-false, le-ltb}
 use Rattle.varint.specs.Formats.{Got, got, bad}
-use Rattle.varint.specs.Outs.{send}
+use Rattle.varint.specs.Outs.{wrote, send}
 use Rattle.varint.specs.RoundTrips.{Bytes}
+use Rattle.varint.specs.Stores.{filled}
 use Rattle.varint.specs.declared.error.Refusal.{Refusal}
 use Rattle.varint.proofs.Basics.{pick-cases}
 use Rattle.varint.proofs.StoreLaws.{filled-fits}
@@ -21,7 +22,7 @@ use Rattle.protocol.specs.declared.message.Answer.the-variants.{Accepted}
 use Rattle.protocol.specs.declared.message.Message.{Message}
 use Rattle.protocol_laws.specs.Canonical.{Canonical}
 use Rattle.protocol_laws.proofs.HeldLaid.{Sound, held-laid, read-sound}
-use Rattle.protocol_laws.proofs.MessagesForth.{read-whole, print-as}
+use Rattle.protocol_laws.proofs.MessagesForth.{read-whole, read-short, print-as}
 
 module _ (tx rs nd : List ℕ) (message : Message) (tx′ rs′ nd′ : List ℕ) where
   abbrev accepted : Left
@@ -57,25 +58,41 @@ module _ (tx rs nd : List ℕ) (message : Message) (tx′ rs′ nd′ : List ℕ
         rows = sym (ap (λ (x : Left). x .rows) h) ∙ filled-fits rs R (ltb-false (length rs) (length R) r);
       })))
 
+  -- so an accepted message was read and is laid out
+  record Decoded (g : Got Said) : Type 0 where
+    said : Said
+    next : ℕ
+    read : g ≡ got said next
+    laid : LaidAs (lay said)
+
+  settled-laid : (g : Got Said) → settled g tx rs nd ≡ accepted → Decoded g
+  unfolding settled
+  settled-laid (got m q) h = record { said = m; next = q; read = refl; laid = fitted-laid (lay m) h }
+  settled-laid (bad e) h = not-kept e h
+
 -- what is laid out there is encoded to its bytes
 laid-encoded : (max limit : ℕ) {m : Said} → Sound m → (tx rs nd X Y d : List ℕ) (message : Message) → lay m .message ≡ message
     → tx ≡ lay m .piece .text ++ X → rs ≡ lay m .piece .rows 0 0 ++ Y → encodeMessage max limit message tx rs nd d ≡ send max (printSaid m) d
 unfolding encodeMessage sent
 laid-encoded max limit o tx rs nd X Y d message f t r = rw (← f, t, r, held-laid limit o X Y nd)
 
--- Where one of the messages with one encoding was decoded from s into any buffers, encoding the message with what these buffers then hold
--- gives s again: `send` says that s and zeros fill the buffer d, or, where d is too short, that it is kept and how long it must be.
-pub encode-decoded : (max limit entry : ℕ) → Canonical entry → (s : List ℕ) → Bytes s → (tx rs nd : List ℕ) (message : Message) (tx′ rs′ nd′ : List ℕ)
-    → decodeMessage max limit entry s tx rs nd ≡ record { answer = Accepted message; text = tx′; rows = rs′; nodes = nd′ }
-    → (d : List ℕ) → encodeMessage max limit message tx′ rs′ nd′ d ≡ send max s d
-unfolding decodeMessage settled
-encode-decoded max limit entry c s B tx rs nd message tx′ rs′ nd′ h d = go (readMessage true max limit entry s) refl h
+module _ (max limit entry : ℕ) (c : Canonical entry) (s : List ℕ) (B : Bytes s) (tx rs nd : List ℕ) (message : Message) (tx′ rs′ nd′ : List ℕ)
+    (h : decodeMessage max limit entry s tx rs nd ≡ record { answer = Accepted message; text = tx′; rows = rs′; nodes = nd′ }) (out : List ℕ)
   where
-    go : (g : Got Said) → readMessage true max limit entry s ≡ g → settled g tx rs nd ≡ accepted tx rs nd message tx′ rs′ nd′
-        → encodeMessage max limit message tx′ rs′ nd′ d ≡ send max s d
-    go (bad e) i k = not-kept tx rs nd message tx′ rs′ nd′ e k
-    go (got m q) i k =
-        let l = fitted-laid tx rs nd message tx′ rs′ nd′ (lay m) k in
-        let r = read-whole max limit entry s m q c i in
-        laid-encoded max limit (read-sound r B) tx′ rs′ nd′ (l .text-rest) (l .rows-rest) d message (l .fields) (l .text) (l .rows)
-        ∙ ap (λ (x : List ℕ). send max x d) (print-as r B)
+    decoded : Decoded tx rs nd message tx′ rs′ nd′ (readMessage true max limit entry s)
+    unfolding decodeMessage
+    decoded = settled-laid tx rs nd message tx′ rs′ nd′ (readMessage true max limit entry s) h
+
+    -- Let one of the messages with one encoding be decoded from s into any buffers: encoding it with what these buffers then hold is to send s.
+    pub encode-decoded : encodeMessage max limit message tx′ rs′ nd′ out ≡ send max s out
+    encode-decoded =
+        let l = decoded .laid in
+        let r = read-whole max limit entry s (decoded .said) (decoded .next) c (decoded .read) in
+        laid-encoded max limit (read-sound r B) tx′ rs′ nd′ (l .text-rest) (l .rows-rest) out message (l .fields) (l .text) (l .rows)
+        ∙ ap (λ (x : List ℕ). send max x out) (print-as r B)
+
+    -- So out is s and then zeros, or, where s does not fit, as it was, and the answer TooSmall with the length of s: a payload over max is not decoded.
+    pub decoded-sent : encodeMessage max limit message tx′ rs′ nd′ out ≡ record { answer = wrote out s; out = filled out s }
+    unfolding send
+    decoded-sent =
+        encode-decoded ∙ rw (le-ltb max (length s) (read-short max limit entry s (decoded .said) (decoded .next) c (decoded .read)))

@@ -1,10 +1,10 @@
 -- A payload that is read is the bytes of what it says, for the messages that have one encoding.
-use mathlib.Core.Bool.{true}
+use mathlib.Core.Bool.{true, _&&_}
 use mathlib.Core.Path.{_≡_, refl, sym, _∙_}
 use mathlib.Core.List.{List, append-nil}
 use Prim.Native.Nat.{ℕ, _≤_}
 use native.Mathlib.Omega.{arith}
-use lib.Dec.{ltb}
+use lib.Dec.{ltb, leb}
 use lib.ListN.{length, drop-of-length-le}
 use borrow.Author.Tests.{ltb-false}
 use Rattle.varint.specs.Choice.{pick}
@@ -115,6 +115,22 @@ read-whole max limit entry s m q Canon.complete = read-as max saidComplete _ s m
 read-whole max limit entry s m q Canon.page = read-as max saidPage _ s m q (λ a r. as-page a (page-got s a q r))
 read-whole max limit entry s m q Canon.fetch = read-as max saidFetch _ s m q (λ a r. as-fetch a (ended-got fetch s a q r))
 read-whole max limit entry s m q Canon.listing = read-as max saidListing _ s m q (λ a r. as-listing a (ended-got listing s a q r))
+
+-- these are messages, so none is longer than may be
+canonical-known : {entry : ℕ} → Canonical entry → (ltb 0 entry && leb entry 12) ≡ true
+canonical-known Canon.startup = refl
+canonical-known Canon.ready = refl
+canonical-known Canon.complete = refl
+canonical-known Canon.page = refl
+canonical-known Canon.fetch = refl
+canonical-known Canon.listing = refl
+
+pub read-short : (max limit entry : ℕ) (s : List ℕ) (m : Said) (q : ℕ) → Canonical entry → readMessage true max limit entry s ≡ got m q
+    → length s ≤ max
+unfolding readMessage
+read-short max limit entry s m q c e =
+    let short = spared (ltb 0 entry && leb entry 12 && ltb max (length s)) _ _ e .0 in
+    ltb-false max (length s) (rw (canonical-known c) at short)
 
 pub print-as : {s : List ℕ} {m : Said} → ReadAs s m → Bytes s → printSaid m ≡ s
 unfolding printSaid
