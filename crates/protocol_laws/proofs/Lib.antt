@@ -1,4 +1,10 @@
-pub mod FieldsBack
-pub mod MessagesBack
-pub mod FineHeld
 pub mod DecodeEncoded
+pub mod EncodeDecoded
+pub mod FieldsBack
+pub mod FieldsForth
+pub mod FineHeld
+pub mod HeldLaid
+pub mod MessageLines
+pub mod MessagesBack
+pub mod MessagesForth
+pub mod Sizes

@@ -1,1 +1,3 @@
+pub mod Canonical
 pub mod Fine
+pub mod MessageLines
