@@ -2,8 +2,11 @@ pub mod DescLoads
 pub mod FieldEnds
 pub mod PairReads
 pub mod PieceLaws
+pub mod RowEnds
 pub mod RowLoads
 pub mod RowReads
 pub mod RowStores
+pub mod RowsLaws
+pub mod RowsLoop
 pub mod TextsRead
 pub mod TypeLoads

@@ -8,8 +8,10 @@ use lib.ListN.{length}
 use Rattle.varint.specs.Formats.{Got, got, bad}
 use Rattle.varint.specs.declared.error.Refusal.{Refusal}
 use Rattle.desc.specs.Layout.{width}
-use Rattle.protocol.specs.Loading.{stored, Mem, put, loaded, load, toldFlat, LoadsFlat, LoadsCells}
+use Rattle.protocol.specs.Loading.{stored, Mem, put, loaded, load, toldRow, toldFlat, beside, LoadsFlat, LoadsCells}
 use Rattle.protocol.specs.Pieces.{Piece}
+use Rattle.desc.specs.declared.Walked.{Walked}
+use Rattle.protocol.specs.declared.rows.Flat.{Flat}
 use Rattle.protocol.specs.declared.rows.Flat.the-variants.{Read, Refused}
 use Rattle.protocol.proofs.RowStores.{stored-none}
 
@@ -40,3 +42,14 @@ module _ {A : Type 0} {check : Bool} {piece : A → Piece} {g : Got A} {rs : Lis
       → LoadsCells check piece g t rs r w (Read q t) rs′
   cells-read h i k ρ l ν z =
       record { is = λ tx. flat-read h (rw (i, add-zero t)) (rw (i, stored-none check tx t)) k ρ l ν z }
+
+-- a row without nodes, among rows with nodes
+pub flat-row : {A : Type 0} (check : Bool) (piece : A → Piece) (g : Got A) (tx : List ℕ) (t : ℕ) (rs : List ℕ) (r w : ℕ) (x : Flat) (tx′ rs′ nd : List ℕ) (n : ℕ) {y : Walked}
+    → LoadsFlat check piece g tx t rs r w x tx′ rs′ → y ≡ beside x n
+    → toldRow (r + w) y tx′ rs′ nd ≡ load check piece g (record { text = tx; t = t; rows = rs; r = r; nodes = nd; n = n })
+unfolding toldRow toldFlat
+flat-row check piece g tx t rs r w x tx′ rs′ nd n h e = ap (λ (y : Walked). toldRow (r + w) y tx′ rs′ nd) e ∙ go x ∙ h .is nd n
+  where
+    go : (x : Flat) → toldRow (r + w) (beside x n) tx′ rs′ nd ≡ toldFlat (r + w) x tx′ rs′ nd n
+    go (Read next u) = refl
+    go (Refused f) = refl

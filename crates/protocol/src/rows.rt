@@ -10,15 +10,17 @@ ghost use Rattle.desc.specs.Reading.{desc};
 ghost use Rattle.protocol.specs.Fetch.{pair};
 ghost use Rattle.protocol.specs.Fields.{bit, descriptor, optionalOn};
 ghost use Rattle.protocol.specs.Ids.{idWidth, layId};
-ghost use Rattle.protocol.specs.Loading.{stored, LoadsFlat, LoadsCells, beside, LoadsNodes, descLeft, Within, load, toldRow, sides, laySides};
+ghost use Rattle.protocol.specs.Loading.{stored, LoadsFlat, LoadsCells, beside, LoadsNodes, descLeft, Within, load, loadRow, loadRows, toldRow, sides, laySides};
 ghost use Rattle.protocol.specs.Pieces.{tree};
 ghost use Rattle.protocol.specs.Profile.{step, stepWidth, layStep};
+ghost use Rattle.protocol.specs.Rows.{widthOf};
 ghost use Rattle.protocol.specs.Startup.{claim, claimWidth, layClaim};
 ghost use Rattle.protocol.specs.Types.{predicate, typeWidth, layPredicate, layValue};
 use crate::fields::ReadFlag;
 use crate::fields::read_flag;
 use crate::fields::read_name;
 use crate::fields::read_wide_flag;
+use crate::message::RowKind;
 use desc::Walked;
 use desc::fill_desc;
 use desc::measure_desc;
@@ -344,5 +346,90 @@ fn read_pair(s: &[u8], at: usize, check: bool, t: usize, rows: &mut [u64], r: us
                 Flat::Read { next: end, text: t }
             }
         },
+    }
+}
+
+fn with_nodes(row: Flat, n: usize) -> Walked
+    ensures { λ x. ⌜ x ≡ beside row n ⌝ }
+{
+    match row {
+        Flat::Read { next, text } => Walked::Read {
+            next,
+            text,
+            nodes: n,
+        },
+        Flat::Refused(e) => Walked::Refused(e),
+    }
+}
+
+fn read_row(
+    kind: RowKind,
+    s: &[u8],
+    at: usize,
+    check: bool,
+    limit: u64,
+    text: &mut [u8],
+    t: usize,
+    rows: &mut [u64],
+    r: usize,
+    nodes: &mut [u64],
+    n: usize,
+) -> Walked
+    requires { ⌜ (t + n ≤ at) × (at ≤ length (now s)) × (r ≤ 2 * at) ⌝ }
+    ensures { λ x. ⌜ toldRow (r + widthOf kind) x (now (text .exit)) (now (rows .exit)) (now (nodes .exit)) ≡ loadRow kind check limit (now (s .entry)) at (record { text = now (text .entry); t = t; rows = now (rows .entry); r = r; nodes = now (nodes .entry); n = n }) ⌝ }
+{
+    match kind {
+        RowKind::Claim => with_nodes(read_claim(s, at, check, text, t, rows, r), n),
+        RowKind::Id => with_nodes(read_id(s, at, check, t, rows, r), n),
+        RowKind::Predicate => read_type(s, at, check, limit, text, t, rows, r, nodes, n),
+        RowKind::Step => with_nodes(read_step(s, at, check, text, t, rows, r), n),
+        RowKind::Pair => with_nodes(read_pair(s, at, check, t, rows, r), n),
+    }
+}
+
+// `count` rows from the start of rows and nodes on, their texts from place t on.
+pub(crate) fn read_rows(
+    kind: RowKind,
+    count: u64,
+    s: &[u8],
+    at: usize,
+    check: bool,
+    limit: u64,
+    text: &mut [u8],
+    t: usize,
+    rows: &mut [u64],
+    nodes: &mut [u64],
+) -> Walked
+    requires { ⌜ (t ≤ at) × (at ≤ length (now s)) ⌝ }
+    ensures { λ x. ⌜ (toldRow (count * widthOf kind) x (now (text .exit)) (now (rows .exit)) (now (nodes .exit)) ≡ loadRows kind check limit count (now (s .entry)) at (record { text = now (text .entry); t = t; rows = now (rows .entry); r = 0; nodes = now (nodes .entry); n = 0 })) × Within (now (s .entry)) (count * widthOf kind) x ⌝ }
+{
+    let width = kind.width();
+    let mut p = at;
+    let mut q = t;
+    let mut r: usize = 0;
+    let mut n: usize = 0;
+    let mut left = count;
+    while 0 < left {
+        match read_row(kind, s, p, check, limit, text, q, rows, r, nodes, n) {
+            Walked::Refused(e) => {
+                return Walked::Refused(e);
+            }
+            Walked::Read {
+                next,
+                text: u,
+                nodes: m,
+            } => {
+                p = next;
+                q = u;
+                n = m;
+                r += width;
+                left -= 1;
+            }
+        }
+    }
+    Walked::Read {
+        next: p,
+        text: q,
+        nodes: n,
     }
 }

@@ -2,11 +2,11 @@
 use mathlib.Core.Bool.{Bool, true, false}
 use mathlib.Core.Path.{_≡_, refl, sym, _∙_, ap, subst}
 use mathlib.Core.List.{List, [], _∷_, _++_, append-nil}
-use Prim.Native.Nat.{ℕ, _+_, _-_, _*_, _/_, _%_, _≤_, _<_}
+use Prim.Native.Nat.{ℕ, _+_, _-_, _*_, _/_, _%_, _≤_}
 use native.Mathlib.Numerals.{add-one}
 use native.Mathlib.Omega.{arith}
 use lib.Dec.{ltb, eqb}
-use lib.ListN.{length, drop, getD, length-drop}
+use lib.ListN.{length, drop, length-drop}
 use lib.Seq.{drop-cons, drop-length}
 use borrow.Author.Tests.{ltb-true, ltb-false, eqb-true}
 use Rattle.varint.specs.Choice.{pick}
@@ -31,30 +31,7 @@ use Rattle.protocol.specs.declared.message.Digest.{Digest}
 use Rattle.protocol.specs.declared.message.Mode.{Mode}
 use Rattle.protocol.specs.declared.message.Mode.the-variants.{ReadOnly, ReadWrite}
 use Rattle.protocol.specs.declared.message.MaybeMode.{MaybeMode}
-
--- What a field that was read says of its parts
-
--- of a choice that may refuse, the other was taken
-pub kept : {A : Type 0} (t : Bool) (x : Got A) (r : Refusal) {a : A} {q : ℕ} → pick t x (bad r) ≡ got a q → (t ≡ true) × (x ≡ got a q)
-kept true x r e = (refl, e)
-kept false x r e = no-got e
-
-pub spared : {A : Type 0} (t : Bool) (x : Got A) (r : Refusal) {a : A} {q : ℕ} → pick t (bad r) x ≡ got a q → (t ≡ false) × (x ≡ got a q)
-spared true x r e = no-got e
-spared false x r e = (refl, e)
-
--- what had to stand a test was read, and stands it
-pub passed : {A : Type 0} (x : Got A) (good : A → Bool) (why : A → Refusal) (a : A) (q : ℕ)
-    → then x (λ b p. pick (good b) (got b p) (bad (why b))) ≡ got a q → (x ≡ got a q) × (good a ≡ true)
-passed (bad r) good why a q e = no-got e
-passed (got b p) good why a q e = let z = kept (good b) _ _ e in let w = got-of (z .1) in (z .1, rw (← w .0) (z .0))
-
-pub byte-got : (missing : Refusal) (s : List ℕ) (at b q : ℕ) → byte missing .read s at ≡ got b q
-    → (at < length s) × (b ≡ getD s at 0) × (q ≡ at + 1)
-byte-got missing s at b q e =
-    let z = kept (ltb at (length s)) _ _ e in
-    let w = got-of (z .1) in
-    (ltb-true at (length s) (z .0), sym (w .0), sym (w .1))
+use Rattle.protocol.proofs.FieldEnds.{kept, spared, passed, byte-got}
 
 -- Formats
 

@@ -25,7 +25,8 @@ use Rattle.protocol.specs.Startup.{Startup, toClaim, fromClaim, claim, toStartu
 use Rattle.protocol.specs.Wholes.{ended, versioned}
 use Rattle.protocol_laws.specs.Canonical as Canon
 use Rattle.protocol_laws.specs.Canonical.{Canonical}
-use Rattle.protocol_laws.proofs.FieldsForth.{spared, passed, provided-forth, mode-forth, countedTo-forth, raw-forth, digest-forth, fact-forth, toEnd-got, toEnd-forth}
+use Rattle.protocol.proofs.FieldEnds.{spared, passed}
+use Rattle.protocol_laws.proofs.FieldsForth.{provided-forth, mode-forth, countedTo-forth, raw-forth, digest-forth, fact-forth, toEnd-got, toEnd-forth}
 
 -- The formats
 

@@ -1,6 +1,6 @@
 -- How much memory a message takes, by its bytes: each byte of text, each row and each node costs a byte or more that was read.
-use mathlib.Core.Bool.{Bool, true, false, _&&_}
-use mathlib.Core.Path.{_≡_, refl, sym, _∙_, ap, subst}
+use mathlib.Core.Bool.{Bool, _&&_}
+use mathlib.Core.Path.{_≡_, refl, sym, _∙_, ap}
 use mathlib.Core.List.{List, [], _∷_, _++_}
 use Prim.Native.Nat.{ℕ, _+_, _-_, _*_, _≤_}
 use native.Mathlib.Omega.{arith}
@@ -9,44 +9,34 @@ use lib.ListN.{length, length-append, length-drop}
 use borrow.Author.Tests.{ltb-false}
 use Rattle.varint.specs.Choice.{pick}
 use Rattle.varint.specs.Fixed.{putLe}
-use Rattle.varint.specs.Formats.{Got, got, bad, then, Format, gotText, readTimes, printAll, counted}
+use Rattle.varint.specs.Formats.{Got, got, bad, Format, readTimes, printAll, counted}
 use Rattle.varint.specs.Leb128.{putU64}
 use Rattle.varint.specs.Stores.{part}
-use Rattle.varint.specs.Texts.{skimText}
-use Rattle.varint.specs.declared.error.Mismatch.{Mismatch}
 use Rattle.varint.specs.declared.error.Mismatch.the-variants as M
 use Rattle.varint.specs.declared.error.Refusal.{Refusal}
-use Rattle.varint.specs.declared.error.Refusal.the-variants.{UnexpectedEof, TypeMismatch, LengthOutOfRange, UnknownPredicate, BlockTooLarge}
-use Rattle.varint.specs.declared.text.ReadText.{ReadText}
-use Rattle.varint.specs.declared.text.ReadText.the-variants.{Text, Refused as NoText}
+use Rattle.varint.specs.declared.error.Refusal.the-variants.{UnexpectedEof, TypeMismatch, LengthOutOfRange, BlockTooLarge}
 use Rattle.varint.proofs.Basics.{pick-both, pick-cases}
 use Rattle.varint.proofs.FormatEnds.{Ends, varint-ends, fixed-ends, pair-ends, named-ends, total, times-ends, counted-ends}
-use Rattle.varint.proofs.FormatParts.{no-got, got-of, went, times-length}
+use Rattle.varint.proofs.FormatParts.{no-got, got-of, times-length}
 use Rattle.varint.proofs.StoreLaws.{length-part}
-use Rattle.varint.proofs.TextLaws.{TextEnds, skim-ends, text-skims}
-use Rattle.desc.specs.Layout.{texts}
-use Rattle.desc.specs.Reading.{nameBy}
-use Rattle.desc.specs.Trees.{Tree, size}
-use Rattle.desc.proofs.Bounds.{desc-bounds}
+use Rattle.desc.specs.Trees.{size}
 use Rattle.desc.proofs.GotAs.{GotAs, got-as}
-use Rattle.desc.proofs.LayoutLaws.{length-placed}
-use Rattle.desc.proofs.SkimLaws.{name-skims}
 use Rattle.protocol.specs.Codes.{modeByte, modeOf, errorByte, errorOf, opByte, opOf}
 use Rattle.protocol.specs.Control.{toControl, fromControl, control, readControl, layControl}
 use Rattle.protocol.specs.Error.{toError, fromError, error, readError, layError}
-use Rattle.protocol.specs.Fields.{textBy, name, text, descriptor, provided, narrow, byte, modeGot, mode, errorGot, errorCode, opGot, controlOp, yes, bit, flag, wideFlag, Optional, absent, present, optionalOn, printOptional, optional, countedTo, raw, toEnd}
-use Rattle.protocol.specs.Fetch.{toFetch, fromFetch, maxFetch, digestOn, printDigest, digest, joinId, splitId, factId, badFact, pair, fetch, readFetch, layFetch}
+use Rattle.protocol.specs.Fields.{text, byte, modeGot, mode, errorGot, errorCode, opGot, controlOp, countedTo, raw, toEnd}
+use Rattle.protocol.specs.Fetch.{toFetch, fromFetch, maxFetch, digestOn, printDigest, digest, fetch, readFetch, layFetch}
 use Rattle.protocol.specs.Ids.{idWidth, layId, readIds, layIds}
 use Rattle.protocol.specs.Page.{toPage, fromPage, page, readPage, layPage}
 use Rattle.protocol.specs.Pieces.{Piece, none, words, _⊕_, many}
-use Rattle.protocol.specs.Profile.{toStep, fromStep, step, readProfile, stepWidth, layStep, layProfile}
+use Rattle.protocol.specs.Profile.{readProfile, stepWidth, layStep, layProfile}
 use Rattle.protocol.specs.Complete.{readComplete, layComplete}
 use Rattle.protocol.specs.Listing.{readListing, layListing}
 use Rattle.protocol.specs.Ready.{readReady, layReady}
 use Rattle.protocol.specs.Reply.{Reply, created, finished, removed, toFinished, fromFinished, finish, replyOn, printReply, reply, readReply, layReply}
 use Rattle.protocol.specs.Said.{Said, saidStartup, saidReady, saidError, saidComplete, saidIds, saidTypes, saidControl, saidReply, saidProfile, saidPage, saidFetch, saidListing, saying, readEntry, readMessage, lay}
-use Rattle.protocol.specs.Startup.{toClaim, fromClaim, claim, toStartup, fromStartup, startup, readStartup, claimWidth, layClaim, layStartup}
-use Rattle.protocol.specs.Types.{Predicate, toPredicate, fromPredicate, predicate, readTypes, typeWidth, layValue, layPredicate, layTypes}
+use Rattle.protocol.specs.Startup.{toStartup, fromStartup, startup, readStartup, claimWidth, layClaim, layStartup}
+use Rattle.protocol.specs.Types.{readTypes, typeWidth, layPredicate, layTypes}
 use Rattle.protocol.specs.Wholes.{ended}
 use Rattle.protocol.specs.declared.message.ControlOp.{ControlOp}
 use Rattle.protocol.specs.declared.message.ControlOp.the-variants.{Create, Finish, Remove}
@@ -60,83 +50,11 @@ use Rattle.protocol.specs.declared.message.MaybeErrorCode.the-variants as ME
 use Rattle.protocol.specs.declared.message.MaybeMode.{MaybeMode}
 use Rattle.protocol.specs.declared.message.MaybeMode.the-variants as MM
 use Rattle.protocol.specs.declared.message.Mode.{Mode}
-use Rattle.protocol_laws.proofs.FieldsForth.{spared, passed, byte-got, toEnd-got}
+use Rattle.protocol_laws.proofs.FieldsForth.{toEnd-got}
 use Rattle.protocol_laws.proofs.HeldLaid.{rows-length}
 use Rattle.protocol_laws.proofs.MessagesForth.{ended-got, versioned-got}
-
--- The fields
-
--- a text that is found, checked or not
-found-ends : (s : List ℕ) (at : ℕ) (x : ReadText) (t : List ℕ) (q : ℕ) → ((start n next : ℕ) → x ≡ Text start n next → skimText s at ≡ Text start n next)
-    → gotText s x ≡ got t q → (at + (length t + 1) ≤ q) × (q ≤ length s)
-found-ends s at (NoText r) t q k e = no-got e
-found-ends s at (Text start n next) t q k e =
-    let h : TextEnds at (length s) (Text start n next) = rw (k start n next refl) at (skim-ends s at) in
-    let h₀ = h .0 in
-    let h₁ = h .1 in
-    let h₂ = h .2 in
-    let w = got-of e in
-    let w₁ = w .1 in
-    let l : length t ≡ n = ap length (sym (w .0)) ∙ length-part s start n (omega arith) in
-    (omega arith, omega arith)
-
-pub name-ends : (check : Bool) → Ends (name check) length 1
-name-ends true = record { ends = λ s at t q h e. found-ends s at (nameBy true s at) t q (λ p n o. name-skims s at p n o) e }
-name-ends false = record { ends = λ s at t q h e. found-ends s at (nameBy false s at) t q (λ p n o i. i) e }
-
-pub text-ends : (check : Bool) → Ends (text check) length 1
-text-ends true = record { ends = λ s at t q h e. found-ends s at (textBy true s at) t q (λ p n o. text-skims s at p n o) e }
-text-ends false = record { ends = λ s at t q h e. found-ends s at (textBy false s at) t q (λ p n o i. i) e }
-
-pub descriptor-ends : (check : Bool) (limit : ℕ) → Ends (descriptor check limit) (λ tr. length (texts tr) + size tr) 0
-descriptor-ends check limit =
-    record { ends = λ s at tr q h e. let i = desc-bounds check limit limit s at tr q h e in let i₀ = i .0 in (omega arith, i .1) }
-
-pub provided-ends : {A : Type 0} {f : Format A} {w : A → ℕ} {k : ℕ} (good : A → Bool) (why : A → Refusal) → Ends f w k → Ends (provided good why f) w k
-provided-ends {f = f} good why F = record { ends = λ s at a q h e. F .ends s at a q h (passed (f .read s at) good why a q e .0) }
-
-pub byte-ends : (missing : Refusal) → Ends (byte missing) (λ b. 0) 1
-byte-ends missing =
-    record {
-      ends = λ s at b q h e.
-          let x = byte-got missing s at b q e in
-          let x₀ = x .0 in
-          let x₂ = x .2 in
-          (omega arith, omega arith);
-    }
-
--- something is read, and then as it tells
-pub chain-ends : {A B : Type 0} {f : Format A} {k : ℕ} (more : A → List ℕ → ℕ → Got B) (print : B → List ℕ) (v : B → ℕ) → Ends f (λ a. 0) k
-    → ((s : List ℕ) (p : ℕ) (a : A) (b : B) (q : ℕ) → p ≤ length s → more a s p ≡ got b q → (p + v b ≤ q) × (q ≤ length s))
-    → Ends (record { read = λ s at. then (f .read s at) (λ a p. more a s p); print = print }) v k
-chain-ends {f = f} more print v F G =
-    record {
-      ends = λ s at b q h e.
-          let x = went (f .read s at) _ b q e in
-          let i = F .ends s at (x .value) (x .next) h (x .first) in
-          let i₀ = i .0 in
-          let j = G s (x .next) (x .value) b q (i .1) (x .rest) in
-          let j₀ = j .0 in
-          (omega arith, j .1);
-    }
-
--- of what was read something else is made
-then-ends : {A B : Type 0} {f : Format A} {w : A → ℕ} {k : ℕ} (to : A → B) (v : B → ℕ) → ((a : A) → v (to a) ≡ w a) → Ends f w k
-    → (s : List ℕ) (p : ℕ) (b : B) (q : ℕ) → p ≤ length s → then (f .read s p) (λ a o. got (to a) o) ≡ got b q → (p + v b ≤ q) × (q ≤ length s)
-then-ends {B = B} {f = f} to v same F s p b q h e =
-    let x = went (f .read s p) _ b q e in
-    let w = got-of (x .rest) in
-    let i = F .ends s p (x .value) (x .next) h (x .first) in
-    let i₀ = i .0 in
-    let i₁ = i .1 in
-    let w₁ = w .1 in
-    let j = same (x .value) in
-    let g : p + v (to (x .value)) ≤ q = omega arith in
-    (subst (λ (c : B). p + v c ≤ q) (w .0) g, omega arith)
-
--- no more was read
-stays : {p q n : ℕ} → p ≤ n → p ≡ q → (p + 0 ≤ q) × (q ≤ n)
-stays h e = (omega arith, omega arith)
+use Rattle.protocol.proofs.FieldEnds.{spared, name-ends, text-ends, byte-ends, chain-ends, then-ends, stays, flag-ends}
+use Rattle.protocol.proofs.RowEnds.{weight, claim-ends, step-ends, fact-ends, predicate-ends, predicate-rows, predicate-nodes}
 
 mode-place : (x : MaybeMode) (p : ℕ) (m : Mode) (q : ℕ) → modeGot x p ≡ got m q → p ≡ q
 mode-place (MM.Known k) p m q e = got-of e .1
@@ -164,12 +82,6 @@ op-ends : Ends controlOp (λ m. 0) 1
 op-ends =
     chain-ends (λ b s p. opGot (opOf b) p) (λ m. opByte m ∷ []) (λ m. 0) (byte-ends (TypeMismatch M.ControlOp))
     (λ s p b m q h e. stays h (op-place (opOf b) p m q e))
-
-flag-ends : (why : Mismatch) → Ends (flag why) (λ b. 0) 1
-flag-ends why = named-ends yes bit (λ b. 0) (λ n. refl) (byte-ends (TypeMismatch why))
-
-wideFlag-ends : Ends wideFlag (λ b. 0) 1
-wideFlag-ends = named-ends yes bit (λ b. 0) (λ n. refl) varint-ends
 
 digest-on : (s : List ℕ) (p b : ℕ) (d : Digest) (q : ℕ) → p ≤ length s → digestOn b s p ≡ got d q → (p + 0 ≤ q) × (q ≤ length s)
 digest-on s p b d q h =
@@ -207,10 +119,6 @@ toEnd-ends check =
 
 -- Rows
 
--- what a piece has of text and nodes
-abbrev weight : Piece → ℕ
-weight p = length (p .text) + p .size
-
 many-weight : {A : Type 0} (piece : A → Piece) (l : List A) → weight (many piece l) ≡ total (λ a. weight (piece a)) l
 unfolding many total
 many-weight piece [] = refl
@@ -237,34 +145,6 @@ module _ {A : Type 0} {f : Format A} {k : ℕ} (piece : A → Piece) (F : Ends f
       let x = spared (ltb (limit s) n) _ _ e .1 in
       rw (many-weight piece l, times-length f n s p l q x) (times-ends F n .ends s p l q h x))
 
-claim-ends : (check : Bool) → Ends (claim check) (λ c. weight (layClaim c)) 2
-claim-ends check = named-ends toClaim fromClaim (λ c. weight (layClaim c)) (λ c. refl) (pair-ends (name-ends check) varint-ends)
-
-step-ends : (check : Bool) → Ends (step check) (λ c. weight (layStep c)) 3
-step-ends check =
-    named-ends toStep fromStep (λ c. weight (layStep c)) (λ c. omega arith) (pair-ends (name-ends check) (pair-ends varint-ends (flag-ends M.FullScan)))
-
-fact-ends : Ends pair (λ i. 0) 2
-fact-ends =
-    named-ends joinId splitId (λ i. 0) (λ c. refl)
-    (provided-ends factId badFact (provided-ends (λ c. narrow (c .0)) (λ _. UnknownPredicate) (pair-ends varint-ends varint-ends)))
-
-module _ (check : Bool) (limit : ℕ) where
-  value-on : (s : List ℕ) (p : ℕ) (b : Bool) (v : Optional (Tree (List ℕ))) (q : ℕ) → p ≤ length s → optionalOn (descriptor check limit) b s p ≡ got v q
-      → (p + weight (layValue v) ≤ q) × (q ≤ length s)
-  value-on s p true v q h e = then-ends present (λ u. weight (layValue u)) (λ tr. refl) (descriptor-ends check limit) s p v q h e
-  value-on s p false v q h e = let w = got-of e in rw (← w .0) (stays h (w .1))
-
-  value-ends : Ends (optional (descriptor check limit)) (λ v. weight (layValue v)) 1
-  value-ends =
-      chain-ends (optionalOn (descriptor check limit)) (printOptional (descriptor check limit)) (λ v. weight (layValue v)) wideFlag-ends value-on
-
-  predicate-ends : Ends (predicate check limit) (λ p. weight (layPredicate p)) 4
-  predicate-ends =
-      named-ends toPredicate fromPredicate (λ p. weight (layPredicate p)) (λ c. simp length-append (omega arith))
-      (pair-ends (provided-ends narrow (λ _. UnknownPredicate) varint-ends)
-      (pair-ends (name-ends check) (pair-ends wideFlag-ends (pair-ends (descriptor-ends check limit) value-ends))))
-
 -- Messages
 
 -- the lent memory that a piece takes, where n bytes were read
@@ -286,20 +166,6 @@ rows-small piece width k wide seven few x l n h =
     let d = nodes-length piece seven l (0 + length x) 0 in
     let c = few (length l) in
     (simp length-append (omega arith), omega arith, omega arith)
-
-value-rows : (v : Optional (Tree (List ℕ))) (t n : ℕ) → layValue v .rows t n ≡ []
-value-rows absent t n = refl
-value-rows (present v) t n = refl
-
-value-nodes : (v : Optional (Tree (List ℕ))) (t n : ℕ) → length (layValue v .nodes t n) ≡ layValue v .size * 7
-value-nodes absent t n = refl
-value-nodes (present v) t n = length-placed v t n (0, 0) 0
-
-predicate-rows : (p : Predicate) (t n : ℕ) → length (layPredicate p .rows t n) ≡ typeWidth
-predicate-rows p t n = ap (λ (x : List ℕ). length (0 ∷ 0 ∷ 0 ∷ 0 ∷ 0 ∷ 0 ∷ x)) (value-rows (p .value) _ _)
-
-predicate-nodes : (p : Predicate) (t n : ℕ) → length (layPredicate p .nodes t n) ≡ layPredicate p .size * 7
-predicate-nodes p t n = simp (length-append, length-placed, value-nodes) (omega arith)
 
 finish-ends : Ends finish (λ f. 0) 4
 finish-ends =
