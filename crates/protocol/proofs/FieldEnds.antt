@@ -25,7 +25,15 @@ use Rattle.desc.specs.Reading.{nameBy}
 use Rattle.desc.specs.Trees.{size}
 use Rattle.desc.proofs.Bounds.{desc-bounds}
 use Rattle.desc.proofs.SkimLaws.{name-skims}
-use Rattle.protocol.specs.Fields.{textBy, name, text, descriptor, provided, byte, yes, bit, flag, wideFlag}
+use Rattle.protocol.specs.Fields.{modeGot, mode, opGot, controlOp, textBy, name, text, descriptor, provided, byte, yes, bit, flag, wideFlag}
+use Rattle.protocol.specs.Codes.{modeOf, opOf}
+use Rattle.protocol.specs.declared.message.ControlOp.{ControlOp}
+use Rattle.protocol.specs.declared.message.MaybeControlOp.{MaybeControlOp}
+use Rattle.protocol.specs.declared.message.MaybeControlOp.the-variants as MC
+use Rattle.varint.specs.declared.error.Mismatch.the-variants as M
+use Rattle.protocol.specs.declared.message.Mode.{Mode}
+use Rattle.protocol.specs.declared.message.MaybeMode.{MaybeMode}
+use Rattle.protocol.specs.declared.message.MaybeMode.the-variants as MM
 
 -- What a field that was read says of its parts
 
@@ -137,3 +145,26 @@ wide-flag-inside s at b q e =
     let i = num-inside s at (w .value) (w .next) (number-got (getU64 s at) (w .value) (w .next) (w .first)) in
     let k = got-of (w .rest) .1 in
     rw (← k) i
+
+op-place : (x : MaybeControlOp) (p : ℕ) (o : ControlOp) (q : ℕ) → opGot x p ≡ got o q → p ≡ q
+op-place (MC.Known k) p o q e = got-of e .1
+op-place MC.Unknown p o q e = no-got e
+
+pub op-inside : (s : List ℕ) (o : ControlOp) (q : ℕ) → controlOp .read s 0 ≡ got o q → q ≤ length s
+op-inside s o q e =
+    let w = went (byte (TypeMismatch M.ControlOp) .read s 0) (λ b p. opGot (opOf b) p) o q e in
+    let b = byte-got (TypeMismatch M.ControlOp) s 0 (w .value) (w .next) (w .first) in
+    let b₀ = b .0 in
+    let b₂ = b .2 in
+    let p = op-place (opOf (w .value)) (w .next) o q (w .rest) in
+    omega arith
+
+mode-place : (x : MaybeMode) (p : ℕ) (m : Mode) (q : ℕ) → modeGot x p ≡ got m q → p ≡ q
+mode-place (MM.Known k) p m q e = got-of e .1
+mode-place MM.Unknown p m q e = no-got e
+
+pub mode-inside : (s : List ℕ) (at : ℕ) (m : Mode) (q : ℕ) → mode .read s at ≡ got m q → q ≡ at + 1
+mode-inside s at m q e =
+    let w = went (byte (TypeMismatch M.Mode) .read s at) (λ b p. modeGot (modeOf b) p) m q e in
+    let b = byte-got (TypeMismatch M.Mode) s at (w .value) (w .next) (w .first) in
+    sym (mode-place (modeOf (w .value)) (w .next) m q (w .rest)) ∙ b .2

@@ -2,10 +2,11 @@
 use mathlib.Core.Bool.{Bool, true, false}
 use mathlib.Core.Path.{_≡_, refl, sym, _∙_}
 use mathlib.Core.List.{List, [], _∷_, _++_}
-use Prim.Native.Nat.{ℕ, suc, _+_, _≤_}
+use Prim.Native.Nat.{ℕ, suc, _+_, _-_, _≤_}
 use native.Mathlib.Omega.{arith}
-use lib.ListN.{length, set}
-use lib.Seq.{sets}
+use lib.ListN.{length, set, drop, length-drop, take-append-drop}
+use lib.Seq.{sets, take-all, drop-drop}
+use Rattle.varint.specs.Stores.{part}
 use Rattle.varint.proofs.StoreLaws.{sets-append, sets-out}
 use Rattle.protocol.specs.Loading.{stored}
 
@@ -32,3 +33,13 @@ stored-past false d at x h = sym (sets-out x d at h)
 pub step-stored : (check : Bool) (d : List ℕ) (r a b c e : ℕ) {f : ℕ} {d₁ d₂ : List ℕ} → d₁ ≡ stored check d r (a ∷ b ∷ c ∷ []) → f ≡ e
     → d₂ ≡ stored check d₁ (r + 3) (f ∷ []) → d₂ ≡ stored check d r (a ∷ b ∷ c ∷ e ∷ [])
 step-stored check d r a b c e h i k = k ∙ rw (h, i) (sym (stored-append check (a ∷ b ∷ c ∷ []) (e ∷ []) d r))
+
+-- all from a place on
+pub part-rest : (s : List ℕ) (at : ℕ) → part s at (length s - at) ≡ drop at s
+unfolding part
+part-rest s at = take-all (length s - at) (drop at s) (simp length-drop (omega arith))
+
+-- a part and all behind it
+pub part-and-rest : (s : List ℕ) (at n : ℕ) → part s at n ++ drop (at + n) s ≡ drop at s
+unfolding part
+part-and-rest s at n = rw (← drop-drop n at s) (take-append-drop n (drop at s))

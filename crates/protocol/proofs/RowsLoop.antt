@@ -8,7 +8,7 @@ use lib.ListN.{length}
 use Rattle.varint.specs.declared.error.Refusal.{Refusal}
 use Rattle.desc.specs.declared.Walked.{Walked}
 use Rattle.desc.specs.declared.Walked.the-variants.{Read, Refused}
-use Rattle.protocol.specs.Loading.{Mem, Loaded, loaded, failed, loadRow, loadRows, toldRow, Within}
+use Rattle.protocol.specs.Loading.{Mem, Loaded, loaded, failed, loadRow, loadRows, toldRow, Within, LoadsRows}
 use Rattle.protocol.specs.Rows.{widthOf}
 use Rattle.protocol.specs.declared.message.RowKind.{RowKind}
 use Rattle.protocol.proofs.RowsLaws.{rows-more, rows-none, rows-failed, Took, row-took}
@@ -47,7 +47,7 @@ module _ (kind : RowKind) (count : ℕ) (s : List ℕ) (at : ℕ) (check : Bool)
 
   module _ {w : ℕ} {tx rs nd : List ℕ} {p q r n left : ℕ} (g : Going w tx rs nd p q r n left) where
     pub going-done : left ≤ 0
-        → (toldRow (count * widthOf kind) (Read p q n) tx rs nd ≡ All) × Within s (count * widthOf kind) (Read p q n)
+        → LoadsRows kind check limit count s at tx₀ t rs₀ nd₀ (count * widthOf kind) (Read p q n) tx rs nd × Within s (count * widthOf kind) (Read p q n)
     unfolding toldRow Within
     going-done h =
         let z : left ≡ 0 = omega arith in
@@ -55,7 +55,7 @@ module _ (kind : RowKind) (count : ℕ) (s : List ℕ) (at : ℕ) (check : Bool)
         let e : r ≡ count * widthOf kind = omega arith in
         let d : All ≡ loaded p (mem tx q rs r nd n) =
         g .all ∙ ap (λ (k : ℕ). loadRows kind check limit k s p (mem tx q rs r nd n)) z ∙ rows-none kind check limit s p (mem tx q rs r nd n) in
-        (rw (← e) (sym d), (g .texts, g .inside, rw (← e) (g .numbers)))
+        (record { is = rw (← e) (sym d) }, (g .texts, g .inside, rw (← e) (g .numbers)))
 
     module _ (more : 0 < left) where
       one : left ≡ suc (left - 1)
@@ -64,10 +64,10 @@ module _ (kind : RowKind) (count : ℕ) (s : List ℕ) (at : ℕ) (check : Bool)
       split : All ≡ loadRows kind check limit (suc (left - 1)) s p (mem tx q rs r nd n)
       split = g .all ∙ ap (λ (k : ℕ). loadRows kind check limit k s p (mem tx q rs r nd n)) one
 
-      pub going-failed : {e : Refusal} (y : ℕ) (tx′ rs′ nd′ : List ℕ) → failed e ≡ loadRow kind check limit s p (mem tx q rs r nd n)
-          → (toldRow y (Refused e) tx′ rs′ nd′ ≡ All) × Within s y (Refused e)
+      pub going-failed : {e : Refusal} {y : ℕ} {tx′ rs′ nd′ : List ℕ} → failed e ≡ loadRow kind check limit s p (mem tx q rs r nd n)
+          → LoadsRows kind check limit count s at tx₀ t rs₀ nd₀ y (Refused e) tx′ rs′ nd′ × Within s y (Refused e)
       unfolding toldRow Within
-      going-failed y tx′ rs′ nd′ h = (sym (split ∙ rows-failed kind check limit (left - 1) s p (mem tx q rs r nd n) _ (sym h)), tt)
+      going-failed h = (record { is = sym (split ∙ rows-failed kind check limit (left - 1) s p (mem tx q rs r nd n) _ (sym h)) }, tt)
 
       module _ {tx′ rs′ nd′ : List ℕ} {p′ q′ n′ : ℕ} (read : loaded p′ (mem tx′ q′ rs′ (r + widthOf kind) nd′ n′) ≡ loadRow kind check limit s p (mem tx q rs r nd n)) where
         pub took-one : Took s p p′ (widthOf kind) (mem tx q rs r nd n) (mem tx′ q′ rs′ (r + widthOf kind) nd′ n′)

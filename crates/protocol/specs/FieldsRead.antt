@@ -12,6 +12,9 @@ use Rattle.protocol.specs.declared.fields.ReadOp.{ReadOp}
 use Rattle.protocol.specs.declared.fields.ReadOp.the-variants as O
 use Rattle.protocol.specs.declared.fields.ReadFlag.{ReadFlag}
 use Rattle.protocol.specs.declared.fields.ReadFlag.the-variants as F
+use Rattle.protocol.specs.declared.fields.ReadDigest.{ReadDigest}
+use Rattle.protocol.specs.declared.fields.ReadDigest.the-variants as D
+use Rattle.protocol.specs.declared.message.Digest.{Digest}
 use Rattle.protocol.specs.declared.message.Mode.{Mode}
 use Rattle.protocol.specs.declared.message.ErrorCode.{ErrorCode}
 use Rattle.protocol.specs.declared.message.ControlOp.{ControlOp}
@@ -35,3 +38,7 @@ gotOp (O.Refused e) = bad e
 abbrev pub gotFlag : ReadFlag → Got Bool
 gotFlag (F.Flag b q) = got b q
 gotFlag (F.Refused e) = bad e
+
+abbrev pub gotDigest : ReadDigest → Got Digest
+gotDigest (D.Digest d q) = got d q
+gotDigest (D.Refused e) = bad e

@@ -7,8 +7,10 @@ use Prim.Native.Nat.{ℕ, _+_, _*_, _≤_}
 use lib.ListN.{length}
 use lib.Seq.{sets}
 use Rattle.varint.specs.Choice.{pick}
-use Rattle.varint.specs.Formats.{Got, got, bad, then, Format, varint, _⊗_, readTimes}
+use Rattle.varint.specs.Formats.{Got, got, bad, then, Format, varint, _⊗_, counted, readTimes}
+use Rattle.varint.specs.declared.error.Mismatch.the-variants as M
 use Rattle.varint.specs.declared.error.Refusal.{Refusal}
+use Rattle.varint.specs.declared.error.Refusal.the-variants.{TypeMismatch}
 use Rattle.varint.specs.Stores.{part}
 use Rattle.varint.specs.declared.text.ReadText.{ReadText}
 use Rattle.varint.specs.declared.text.ReadText.the-variants as T
@@ -18,14 +20,17 @@ use Rattle.desc.specs.Trees.{Tree}
 use Rattle.desc.specs.declared.Walked.{Walked}
 use Rattle.desc.specs.declared.Walked.the-variants as W
 use Rattle.protocol.specs.Fetch.{pair}
-use Rattle.protocol.specs.Fields.{bit, wideFlag, descriptor, Optional, optional}
+use Rattle.protocol.specs.Fields.{narrow, mode, bit, wideFlag, descriptor, Optional, optional}
 use Rattle.protocol.specs.Ids.{layId}
 use Rattle.protocol.specs.Laying.{Laid}
 use Rattle.protocol.specs.Pieces.{Piece, cells, tree, _⊕_, many}
 use Rattle.protocol.specs.Profile.{step, layStep}
-use Rattle.protocol.specs.Startup.{claim, layClaim}
+use Rattle.protocol.specs.Reply.{Finished, finished, layReply}
+use Rattle.protocol.specs.Startup.{Claim, claim, layClaim}
 use Rattle.protocol.specs.Types.{predicate, hasValue, layValue, layPredicate}
 use Rattle.protocol.specs.declared.message.Message.{Message}
+use Rattle.protocol.specs.declared.message.Message.the-variants as Msg
+use Rattle.protocol.specs.declared.message.Mode.{Mode}
 use Rattle.protocol.specs.declared.message.RowKind.{RowKind}
 use Rattle.protocol.specs.declared.message.RowKind.the-variants as K
 use Rattle.protocol.specs.declared.rows.Flat.{Flat}
@@ -130,6 +135,10 @@ abbrev pub textLeft : Bool → List ℕ → ReadText → List ℕ → ℕ → Li
 textLeft check s (T.Text start len next) tx t = stored check tx t (part s start len)
 textLeft check s (T.Refused e) tx t = tx
 
+-- `count` rows are loaded as they were read; the next would go to number k
+pub record LoadsRows (kind : RowKind) (check : Bool) (limit count : ℕ) (s : List ℕ) (at : ℕ) (tx : List ℕ) (t : ℕ) (rs nd : List ℕ) (k : ℕ) (x : Walked) (tx′ rs′ nd′ : List ℕ) : Type 0 where
+  pub is : toldRow k x tx′ rs′ nd′ ≡ loadRows kind check limit count s at (record { text = tx; t = t; rows = rs; r = 0; nodes = nd; n = 0 })
+
 -- a whole message: its fields, its sizes in bytes and numbers, and the memory
 pub data Outcome : Type 0 where
   done : Message → (t r k : ℕ) → (tx rs nd : List ℕ) → Outcome
@@ -153,3 +162,39 @@ told (F.Refused e) tx rs nd = refused e
 unfoldable pub bare : Got Laid → Found
 bare (got l q) = F.Read (l .message) 0 0 0
 bare (bad e) = F.Refused e
+
+pub record ReadsBare (g : Got Laid) (x : Found) : Type 0 where
+  pub is : x ≡ bare g
+
+-- A message is read as it is laid out, into any memory; so where it has texts alone, whatever the rows and nodes.
+pub record Reads (check : Bool) (g : Got Laid) (tx rs nd : List ℕ) (x : Found) (tx′ rs′ nd′ : List ℕ) : Type 0 where
+  pub is : told x tx′ rs′ nd′ ≡ outcome check g tx rs nd
+
+pub record ReadsText (check : Bool) (g : Got Laid) (tx : List ℕ) (x : Found) (tx′ : List ℕ) : Type 0 where
+  pub is : (rs nd : List ℕ) → Reads check g tx rs nd x tx′ rs nd
+
+-- the fields of a finished reply
+abbrev pub layFinished : Finished → Laid
+layFinished f = layReply (finished f)
+
+-- what follows the version and the database of a startup
+abbrev pub session : Bool → Format (Mode × (ℕ × List Claim))
+session check = mode ⊗ varint ⊗ counted (claim check)
+
+-- A startup of this version, whose database of so many bytes is in the text already.
+abbrev pub sessionOf : ℕ → ℕ → Mode × (ℕ × List Claim) → Message
+sessionOf version len c = Msg.Startup version (record { start = 0; len = len }) (c .0) (c .1 .0) (length (c .1 .1))
+
+unfoldable pub sessionOutcome : Bool → ℕ → ℕ → Got (Mode × (ℕ × List Claim)) → List ℕ → List ℕ → List ℕ → Outcome
+sessionOutcome check version len (got c q) tx rs nd =
+    pick (narrow version)
+    (done (sessionOf version len c) (len + length (p .text)) (length (p .rows len 0)) (length (p .nodes len 0))
+    (stored check tx len (p .text)) (stored check rs 0 (p .rows len 0)) (stored check nd 0 (p .nodes len 0)))
+    (refused (TypeMismatch M.Version))
+  where
+    p : Piece
+    p = many layClaim (c .1 .1)
+sessionOutcome check version len (bad e) tx rs nd = refused e
+
+pub record SessionRead (check : Bool) (version len : ℕ) (g : Got (Mode × (ℕ × List Claim))) (tx rs nd : List ℕ) (x : Found) (tx′ rs′ nd′ : List ℕ) : Type 0 where
+  pub is : told x tx′ rs′ nd′ ≡ sessionOutcome check version len g tx rs nd

@@ -3,10 +3,12 @@ ghost use mathlib.Core.Bool.{false};
 ghost use mathlib.Core.Path.{_≡_};
 ghost use Rattle.varint.specs.Formats.{Got};
 ghost use Rattle.desc.specs.Reading.{nameBy};
-ghost use Rattle.protocol.specs.FieldsRead.{gotByte, gotMode, gotCode, gotOp, gotFlag};
+ghost use Rattle.protocol.specs.FieldsRead.{gotByte, gotMode, gotCode, gotOp, gotFlag, gotDigest};
+ghost use Rattle.protocol.specs.Fetch.{digest};
 ghost use Rattle.protocol.specs.Fields.{textBy, byte, mode, errorCode, controlOp, flag, wideFlag};
 ghost use Rattle.protocol.specs.Loading.{textLeft};
 use crate::message::ControlOp;
+use crate::message::Digest;
 use crate::message::ErrorCode;
 use crate::message::MaybeControlOp;
 use crate::message::MaybeErrorCode;
@@ -44,6 +46,11 @@ pub(crate) enum ReadOp {
 
 pub(crate) enum ReadFlag {
     Flag { yes: bool, next: usize },
+    Refused(Refusal),
+}
+
+pub(crate) enum ReadDigest {
+    Digest { digest: Digest, next: usize },
     Refused(Refusal),
 }
 
@@ -155,4 +162,31 @@ pub(crate) fn read_text(s: &[u8], at: usize, check: bool, text: &mut [u8], t: us
         return get_str(s, at);
     }
     keep_text(s, skim_str(s, at), text, t)
+}
+
+// A fetch's flag, and the digest behind it where the flag is 1.
+pub(crate) fn read_digest(s: &[u8], at: usize) -> ReadDigest
+    ensures { λ r. ⌜ gotDigest r ≡ digest .read (now (s .entry)) at ⌝ }
+{
+    match read_byte(s, at, Refusal::UnexpectedEof) {
+        ReadByte::Refused(e) => ReadDigest::Refused(e),
+        ReadByte::Byte { value: flag, next } => {
+            if flag == 0 {
+                return ReadDigest::Digest {
+                    digest: Digest::Absent,
+                    next,
+                };
+            }
+            if flag != 1 {
+                return ReadDigest::Refused(Refusal::BadDigestFlag(flag));
+            }
+            match get_u64(s, next) {
+                ReadU64::Refused(e) => ReadDigest::Refused(e),
+                ReadU64::Value { value, next: end } => ReadDigest::Digest {
+                    digest: Digest::Present(value),
+                    next: end,
+                },
+            }
+        }
+    }
 }

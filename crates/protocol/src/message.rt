@@ -4,6 +4,9 @@ ghost use Rattle.protocol.specs.Codes.{modeOf, modeByte, errorOf, errorB
 ghost use Rattle.protocol.specs.Rows.{widthOf};
 use varint::error::Refusal;
 
+// The most ids that a fetch may ask for.
+pub const MAX_FETCH: u64 = 4096;
+
 // How a session is opened.
 pub enum Mode {
     ReadOnly,

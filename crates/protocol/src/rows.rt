@@ -10,7 +10,7 @@ ghost use Rattle.desc.specs.Reading.{desc};
 ghost use Rattle.protocol.specs.Fetch.{pair};
 ghost use Rattle.protocol.specs.Fields.{bit, descriptor, optionalOn};
 ghost use Rattle.protocol.specs.Ids.{idWidth, layId};
-ghost use Rattle.protocol.specs.Loading.{stored, LoadsFlat, LoadsCells, beside, LoadsNodes, descLeft, Within, load, loadRow, loadRows, toldRow, sides, laySides};
+ghost use Rattle.protocol.specs.Loading.{stored, LoadsFlat, LoadsCells, beside, LoadsNodes, descLeft, Within, load, loadRow, LoadsRows, toldRow, sides, laySides};
 ghost use Rattle.protocol.specs.Pieces.{tree};
 ghost use Rattle.protocol.specs.Profile.{step, stepWidth, layStep};
 ghost use Rattle.protocol.specs.Rows.{widthOf};
@@ -401,7 +401,7 @@ pub(crate) fn read_rows(
     nodes: &mut [u64],
 ) -> Walked
     requires { ⌜ (t ≤ at) × (at ≤ length (now s)) ⌝ }
-    ensures { λ x. ⌜ (toldRow (count * widthOf kind) x (now (text .exit)) (now (rows .exit)) (now (nodes .exit)) ≡ loadRows kind check limit count (now (s .entry)) at (record { text = now (text .entry); t = t; rows = now (rows .entry); r = 0; nodes = now (nodes .entry); n = 0 })) × Within (now (s .entry)) (count * widthOf kind) x ⌝ }
+    ensures { λ x. ⌜ LoadsRows kind check limit count (now (s .entry)) at (now (text .entry)) t (now (rows .entry)) (now (nodes .entry)) (count * widthOf kind) x (now (text .exit)) (now (rows .exit)) (now (nodes .exit)) × Within (now (s .entry)) (count * widthOf kind) x ⌝ }
 {
     let width = kind.width();
     let mut p = at;
