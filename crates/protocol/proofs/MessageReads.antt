@@ -2,7 +2,7 @@
 use mathlib.Core.Bool.{Bool, true, false}
 use mathlib.Core.Path.{_≡_, refl, sym, _∙_, ap}
 use mathlib.Core.List.{List, [], _++_}
-use Prim.Native.Nat.{ℕ, _+_, _-_}
+use Prim.Native.Nat.{ℕ, _+_, _-_, _≤_}
 use lib.Dec.{ltb}
 use native.Mathlib.Nat.{zero-add}
 use native.Mathlib.Omega.{arith}
@@ -16,6 +16,7 @@ use Rattle.protocol.specs.Laying.{Laid}
 use Rattle.protocol.specs.Loading.{stored, done, refused, outcome, laidAs, told, bare, ReadsBare, Reads, ReadsText, layFinished}
 use Rattle.protocol.specs.Pieces.{Piece, none, words, _⊕_}
 use Rattle.protocol.specs.Reply.{removed, finish, layReply}
+use Rattle.protocol.specs.Said.{Said, saying, lay}
 use Rattle.protocol.specs.Wholes.{ended}
 use Rattle.protocol.specs.declared.message.Message.{Message}
 use Rattle.protocol.specs.declared.read.Found.{Found}
@@ -71,3 +72,20 @@ removed-bare s at l q = go (ltb at (length s))
     go : (b : Bool) → laidAs layReply (pick b (bad (TrailingBytes (length s - at))) (got removed at)) ≡ got l q → l .piece ≡ none
     go true e = no-got e
     go false e = ap (λ (y : Laid). y .piece) (sym (got-of e .0))
+
+-- a message of its own number
+pub said-laid : {A : Type 0} (to : A → Said) (layA : A → Laid) → ((a : A) → lay (to a) ≡ layA a) → (g : Got A) → laidAs lay (saying to g) ≡ laidAs layA g
+said-laid to layA same (got a q) = ap (λ (l : Laid). got l q) (same a)
+said-laid to layA same (bad e) = refl
+
+pub laid-bare : {A : Type 0} (layA : A → Laid) → ((a : A) → layA a .piece ≡ none) → (g : Got A) (l : Laid) (q : ℕ) → laidAs layA g ≡ got l q → l .piece ≡ none
+laid-bare layA none-is g l q e =
+    let w = went g (λ a o. got (layA a) o) l q e in
+    rw (← got-of (w .rest) .0) (none-is (w .value))
+
+-- an entry that is none of those before
+pub past : (k : ℕ) {e : ℕ} → k ≤ e → (e ≡ k → ⊥) → k + 1 ≤ e
+past k h n = omega (arith, n)
+
+pub twelve : {e : ℕ} → 12 ≤ e → e ≤ 12 → e ≡ 12
+twelve h k = omega arith

@@ -1,9 +1,10 @@
 -- A message's two readings: the first checks it and tells how much memory it takes, the second stores it. Both are one function, so this says
 -- what each of its parts answers and leaves in memory. Where a reading is refused, what it left is not told: the first is lent memory of its own.
 use mathlib.Core.Bool.{Bool, true, false}
+use mathlib.Core.Logic.{_⊎_}
 use mathlib.Core.Path.{_≡_}
 use mathlib.Core.List.{List, [], _∷_}
-use Prim.Native.Nat.{ℕ, _+_, _*_, _≤_}
+use Prim.Native.Nat.{ℕ, _+_, _*_, _≤_, _<_}
 use lib.ListN.{length}
 use lib.Seq.{sets}
 use Rattle.varint.specs.Choice.{pick}
@@ -198,3 +199,7 @@ sessionOutcome check version len (bad e) tx rs nd = refused e
 
 pub record SessionRead (check : Bool) (version len : ℕ) (g : Got (Mode × (ℕ × List Claim))) (tx rs nd : List ℕ) (x : Found) (tx′ rs′ nd′ : List ℕ) : Type 0 where
   pub is : told x tx′ rs′ nd′ ≡ sessionOutcome check version len g tx rs nd
+
+-- an entry that names no message
+abbrev pub Opaque : ℕ → Type 0
+Opaque entry = (entry ≡ 0) ⊎ (12 < entry)

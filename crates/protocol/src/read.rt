@@ -1,6 +1,6 @@
 // Reading whole messages, each as its layout says. In the reading that does not check, texts, rows and nodes are stored.
 ghost use mathlib.Core.Path.{_≡_};
-ghost use Prim.Native.Nat.{_-_, _≤_};
+ghost use Prim.Native.Nat.{_-_, _≤_, _<_};
 ghost use Rattle.varint.specs.declared.error.Refusal.the-variants.{TrailingBytes};
 ghost use lib.ListN.{length};
 ghost use Rattle.protocol.specs.declared.read.Found.the-variants as F;
@@ -24,6 +24,7 @@ ghost use Rattle.protocol.specs.Page.{readPage, layPage};
 ghost use Rattle.protocol.specs.Profile.{readProfile, layProfile};
 ghost use Rattle.protocol.specs.Ready.{readReady, layReady};
 ghost use Rattle.protocol.specs.Reply.{removed, finish, replyOn, readReply, layReply};
+ghost use Rattle.protocol.specs.Said.{readEntry, lay};
 ghost use Rattle.protocol.specs.Startup.{readStartup, layStartup};
 ghost use Rattle.protocol.specs.Types.{readTypes, layTypes};
 use crate::fields::ReadCode;
@@ -659,5 +660,34 @@ pub(crate) fn read_startup(
                 next: q,
             } => read_session(s, q, version, len, check, text, rows, nodes),
         },
+    }
+}
+
+// Message `entry` of a payload.
+pub(crate) fn read_message(
+    entry: u8,
+    s: &[u8],
+    check: bool,
+    limit: u64,
+    text: &mut [u8],
+    rows: &mut [u64],
+    nodes: &mut [u64],
+) -> Found
+    requires { ⌜ (0 < entry) × (entry ≤ 12) × (length (now s) ≤ 4294967296) ⌝ }
+    ensures { λ x. ⌜ Reads check (laidAs lay (readEntry check limit entry (now (s .entry)))) (now (text .entry)) (now (rows .entry)) (now (nodes .entry)) x (now (text .exit)) (now (rows .exit)) (now (nodes .exit)) ⌝ }
+{
+    match entry {
+        1 => read_startup(s, check, text, rows, nodes),
+        2 => read_ready(s),
+        3 => read_error(s, check, text),
+        4 => read_complete(s),
+        5 => read_ids(s, check, text, rows, nodes),
+        6 => read_types(s, check, limit, text, rows, nodes),
+        7 => read_control(s, check, text),
+        8 => read_control_reply(s, check, text),
+        9 => read_profile(s, check, text, rows, nodes),
+        10 => read_page(s, check, text),
+        11 => read_fetch(s, check, text, rows, nodes),
+        _ => read_listing_digest(s),
     }
 }
