@@ -1,12 +1,15 @@
 -- What an encoder looks at before it writes, as the code has it: 19(2), 19(4), 19(3), then the texts in reading order.
 use mathlib.Core.Bool.{Bool, true}
-use mathlib.Core.List.{List}
+use mathlib.Core.Path.{_≡_, refl}
+use mathlib.Core.List.{List, [], _∷_}
 use Prim.Native.Nat.{ℕ, zero, suc, _+_, _*_}
 use lib.Dec.{ltb}
 use lib.ListN.{length, getD}
 use Rattle.varint.specs.Choice.{pick}
 use Rattle.varint.specs.Gathering.{Held, held, lacks, nameHeld, textHeld}
-use Rattle.varint.specs.declared.error.Fault.the-variants.{RowCount, Number}
+use Rattle.varint.specs.Stores.{part}
+use Rattle.varint.specs.Utf8.{utf8, scan, lead}
+use Rattle.varint.specs.declared.error.Fault.the-variants.{Texts, RowCount, Number}
 use Rattle.varint.specs.declared.error.Refusal.the-variants.{BadMessage, BlockTooLarge}
 use Rattle.desc.specs.Emitting.{verdict, thenNames}
 use Rattle.desc.specs.Encoding.{heldIn}
@@ -47,7 +50,7 @@ numbersFine Predicate rs count = allGood (rowGood Predicate rs) (widthOf Predica
 numbersFine Step rs count = allGood (rowGood Step rs) (widthOf Step) count 0
 numbersFine Pair rs count = true
 
--- the node after those of a type or of all types, if they are laid out as nodes are
+-- the node after those of a type, if they are laid out as nodes are
 unfoldable pub laidAs : Held ℕ → Laid
 laidAs (held n) = L.Next n
 laidAs (lacks e) = L.Wrong
@@ -88,6 +91,7 @@ rowsFine kind limit tx rs nd count =
     (thenNames (nodesFine kind limit rs nd count) (rowsNames kind limit tx rs nd count 0))
     (Refused (BadMessage Number)))
 
+-- only a reply to a create has a text
 unfoldable pub replyFine : ControlReply → List ℕ → Names
 replyFine (R.Created span) tx = verdict (nameHeld tx (span .start) (span .len))
 replyFine (R.Finished fingerprint facts bytes complete) tx = Good
@@ -122,3 +126,13 @@ fine limit (Msg.Page most cursor query) tx rs nd =
 fine limit (Msg.Fetch digest count) tx rs nd = fetchFine limit tx rs nd count
 fine limit (Msg.ListingDigest predicate digest) tx rs nd = Good
 fine limit (Msg.Opaque payload) tx rs nd = verdict (rawHeld tx (payload .start) (payload .len))
+
+-- a claim whose name is past the text's end, after one whose name is there
+example-names : rowsNames Claim 64 (0x61 ∷ []) (0 ∷ 1 ∷ 7 ∷ 1 ∷ 1 ∷ 8 ∷ []) [] 2 0 ≡ Refused (BadMessage Texts)
+unfolding rowsNames rowNames thenNames verdict nameHeld textHeld utf8 scan lead part
+example-names = refl
+
+-- a fetch of too many ids, and too few rows for them: 19(2) comes first
+example-fetch : fetchFine 64 [] [] [] 4097 ≡ Refused (BadMessage RowCount)
+unfolding fetchFine rowsFine thenNames
+example-fetch = refl
