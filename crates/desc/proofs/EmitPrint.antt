@@ -32,7 +32,7 @@ pub record Roomy (s : Pen) : Type 0 where
   pub short : length (s .out) ≤ last
   pub inside : s .place ≤ last
 
-roomy-put : (x : List ℕ) (s : Pen) → Roomy s → Roomy (putBytes x s)
+pub roomy-put : (x : List ℕ) (s : Pen) → Roomy s → Roomy (putBytes x s)
 unfolding putBytes
 roomy-put x s h = record { short = rw length-sets (h .short); inside = omega arith }
 
@@ -51,14 +51,14 @@ sets-cut x y d at h =
     rw e (sym (sets-append x y d at)))
     (below last (at + length x))
 
-two : (x y : List ℕ) (s : Pen) → Roomy s → putBytes y (putBytes x s) ≡ putBytes (x ++ y) s
+pub two : (x y : List ℕ) (s : Pen) → Roomy s → putBytes y (putBytes x s) ≡ putBytes (x ++ y) s
 unfolding putBytes
 two x y s h =
     let l : length (x ++ y) ≡ length x + length y = length-append x y in
     let e : declared (declared (s .place + length x) + length y) ≡ declared (s .place + length (x ++ y)) = omega arith in
     λ i. record { out = sets-cut x y (s .out) (s .place) (h .short) i; place = e i }
 
-nothing : (s : Pen) → Roomy s → s ≡ putBytes [] s
+pub nothing : (s : Pen) → Roomy s → s ≡ putBytes [] s
 unfolding putBytes
 nothing s h =
     let p = h .inside in

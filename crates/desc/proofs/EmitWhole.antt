@@ -43,7 +43,7 @@ whole-of tx t e (held u) g v =
     }
 whole-of tx t e (lacks x) g v = let z : _≡_ {A = ℕ} 0 1 = cc in absurd (omega arith)
 
-refused-of : {A : Type 0} (H : Held A) (e : Refusal) → verdict H ≡ Refused e → H ≡ lacks e
+pub refused-of : {A : Type 0} (H : Held A) (e : Refusal) → verdict H ≡ Refused e → H ≡ lacks e
 unfolding verdict
 refused-of (held a) e h = let z : _≡_ {A = ℕ} 0 1 = cc in absurd (omega arith)
 refused-of (lacks x) e h = cc

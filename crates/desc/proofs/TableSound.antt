@@ -66,7 +66,7 @@ kids-laid depth nd r tag h (suc k) m =
     (λ ks f o. more-laid depth tag nd k m e f st ks t o))
 
 -- there are no more parts than nodes
-some-size : {N : Type 0} (st : Tree N) → 1 ≤ size st
+pub some-size : {N : Type 0} (st : Tree N) → 1 ≤ size st
 unfolding size
 some-size (leaf tag p) = omega arith
 some-size (branch tag ks) = omega arith

@@ -3,7 +3,7 @@
 // A descriptor is read twice: once to see whether it is one and how much memory it takes, and once to store it. The first reading checks
 // its names, the second only finds them. Both are one function, which is lent two small buffers of its own the first time.
 mod head;
-mod node;
+pub mod node;
 pub mod write;
 
 ghost use mathlib.Core.Path.{_≡_};

@@ -50,7 +50,7 @@ pub(crate) fn store_node(
 }
 
 // The number in column `c` of node `n`, 0 where there is none.
-pub(crate) fn read_cell(nodes: &[u64], n: usize, c: usize) -> u64
+pub fn read_cell(nodes: &[u64], n: usize, c: usize) -> u64
     ensures { λ r. ⌜ r ≡ cell (now (nodes .entry)) n c ⌝ }
 {
     if nodes.len() <= n {

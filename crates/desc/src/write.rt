@@ -90,7 +90,7 @@ fn node_fits(nodes: &[u64], n: usize, parent: u64) -> bool
 }
 
 // The sum, or the greatest number where it is greater.
-fn plus(a: usize, b: usize) -> usize
+pub fn plus(a: usize, b: usize) -> usize
     ensures { λ r. ⌜ r ≡ declared (a + b) ⌝ }
 {
     if b <= 0xFFFF_FFFF_FFFF_FFFF - a {
@@ -100,7 +100,7 @@ fn plus(a: usize, b: usize) -> usize
 }
 
 // Stores the varint of `v` from place `at` on, as far as `out` goes, and returns the place after it.
-fn put_number(out: &mut [u8], at: usize, v: u64) -> usize
+pub fn put_number(out: &mut [u8], at: usize, v: u64) -> usize
     ensures { λ r. ⌜ record { out = now (out .exit); place = r } ≡ putNumber v (record { out = now (out .entry); place = at }) ⌝ }
 {
     let n = put_u64(out, at, v);
@@ -118,7 +118,7 @@ fn put_where(out: &mut [u8], at: usize, wanted: bool, v: u64) -> usize
 }
 
 // Stores `len` bytes of the text, as far as they are there, and moves on by `len`.
-fn put_name(text: &[u8], start: usize, len: usize, out: &mut [u8], at: usize) -> usize
+pub fn put_name(text: &[u8], start: usize, len: usize, out: &mut [u8], at: usize) -> usize
     ensures { λ r. ⌜ record { out = now (out .exit); place = r } ≡ putName (now (text .entry)) (start, len) (record { out = now (out .entry); place = at }) ⌝ }
 {
     copy_bytes(text, start, len, out, at);
@@ -225,7 +225,7 @@ pub fn put_desc(
 }
 
 // Is the name of `len` bytes from place `start` on in the text, and is it UTF-8?
-fn check_name(text: &[u8], start: usize, len: usize) -> Names
+pub fn check_name(text: &[u8], start: usize, len: usize) -> Names
     ensures { λ r. ⌜ r ≡ verdict (nameHeld (now (text .entry)) start len) ⌝ }
 {
     if text.len() < start {

@@ -8,7 +8,7 @@ import random
 from make_varint import TOP, leb, read, refused, title, valid, words
 
 WIDE = 2**32
-DIRTY = 165
+DIRTY = 0xA5A5A5A5A5A5A5A5
 MAX_DEPTH = 64
 
 
@@ -111,7 +111,7 @@ def decode(s, t=None, r=1, n=None):
             fail(16, 3, len(nodes))
         answer = words("used", used, memory(text.ljust(t, b"\0"), [0] * r, nodes + [0] * (n - len(nodes))))
     except Refused as e:
-        t, n = 2 if t is None else t, 8 if n is None else n
+        t, n = 2 if t is None else t, 1 if n is None else n
         answer = words(e.args[0], memory(b"\xa5" * t, [DIRTY] * r, [DIRTY] * n))
     print(words("decode_desc", s, t, r, n), "=", answer)
 

@@ -3,7 +3,9 @@
 // A data file has a request to a line, `REQUEST = ANSWER`; blank lines and lines that start with `#` are skipped. A line whose
 // answer differs is printed with the answer that came, and at the end each file has a line with its counts.
 mod answer;
-mod desc_ops;
+mod decode_ops;
+mod encode_ops;
+mod fields;
 mod lines;
 mod memory;
 mod parts;
@@ -99,4 +101,5 @@ fn replay_file(name: &[u8]) {
 fn main() {
     replay_file(b"varint.txt");
     replay_file(b"desc.txt");
+    replay_file(b"messages.txt");
 }

@@ -1,8 +1,8 @@
-// Numbers to lend, each of them 165 before a call.
-const COUNT: usize = 1024;
+// Numbers to lend, each byte of them A5 before a call. There are more than the 4,096 ids that a fetch may have.
+const COUNT: usize = 4100;
 
 pub(crate) fn dirty_numbers() -> [u64; COUNT] {
-    [165; COUNT]
+    [0xa5a5_a5a5_a5a5_a5a5; COUNT]
 }
 
 pub(crate) fn has_numbers(n: u64) -> bool {

@@ -1,6 +1,7 @@
 // One line of a data file: the request is replayed, and its answer compared with the recorded one.
 use crate::answer::Outcome;
-use crate::desc_ops;
+use crate::decode_ops;
+use crate::encode_ops;
 use crate::parts::after;
 use crate::parts::front;
 use crate::varint_ops;
@@ -88,13 +89,17 @@ fn is_skipped(line: &[u8]) -> bool {
     line[0] == b'#'
 }
 
-// The operations of each layer, the lowest first.
+// The operations of each kind, the simplest first.
 fn perform(request: &[u8], bytes: &mut [u8], out: &mut [u8], answer: &mut [u8]) -> Outcome {
     let o = varint_ops::perform(request, bytes, out, answer);
     if o.is_known() {
         return o;
     }
-    desc_ops::perform(request, bytes, out, answer)
+    let o = decode_ops::perform(request, bytes, out, answer);
+    if o.is_known() {
+        return o;
+    }
+    encode_ops::perform(request, bytes, out, answer)
 }
 
 // Is the answer to the line's request the recorded one? Where it is not, the line is printed.

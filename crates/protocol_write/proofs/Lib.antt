@@ -1,0 +1,9 @@
+pub mod RowLoops
+pub mod NodeChecks
+pub mod WriteSteps
+pub mod Printing
+pub mod RowPrints
+pub mod MessagePrints
+pub mod Sends
+pub mod Verdicts
+pub mod Encodes

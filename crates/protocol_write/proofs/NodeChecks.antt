@@ -1,0 +1,165 @@
+-- Tests of a type's nodes: the only refusal is that of the layout.
+use mathlib.Core.Path.{_≡_, refl, sym, _∙_, ap}
+use mathlib.Core.List.{List, []}
+use Prim.Native.Nat.{ℕ, zero, suc, _+_, _-_, _≤_, _<_}
+use native.Mathlib.Omega.{arith}
+use lib.Dec.{eqb}
+use lib.ListN.{getD}
+use borrow.Author.Tests.{eq-eqb, ne-eqb}
+use Rattle.varint.specs.Choice.{pick}
+use Rattle.varint.specs.Formats.{Got, got, bad}
+use Rattle.varint.specs.Gathering.{Held, held, lacks, thenHeld, nameHeld}
+use Rattle.varint.specs.declared.error.Fault.the-variants.{Layout}
+use Rattle.varint.specs.declared.error.Refusal.the-variants.{BadMessage}
+use Rattle.varint.proofs.Basics.{pick-both}
+use Rattle.desc.specs.Emitting.{sized, verdict, thenNames, namesFrom}
+use Rattle.desc.specs.Encoding.{heldIn}
+use Rattle.desc.specs.Layout.{Span}
+use Rattle.desc.specs.Table.{table}
+use Rattle.desc.specs.Trees.{Tree}
+use Rattle.desc.specs.declared.write.Emitted.{Emitted}
+use Rattle.desc.specs.declared.write.Emitted.the-variants.{Done, Wrong}
+use Rattle.desc.specs.declared.write.Names.{Names}
+use Rattle.desc.specs.declared.write.Names.the-variants.{Good, Refused}
+use Rattle.desc.proofs.GotAs.{GotAs}
+use Rattle.desc.proofs.TableNames.{table-bad, table-verdict}
+use Rattle.desc.proofs.TableSound.{Laid, table-laid, some-size}
+use Rattle.protocol.specs.Fields.{yes}
+use Rattle.protocol.specs.declared.message.RowKind.the-variants.{Predicate}
+use Rattle.protocol.specs.Types.{after, typeLaid, typesLaid}
+use Rattle.protocol_write.specs.Checking.{laidAs, valueNames, rowNames}
+use Rattle.protocol_write.specs.declared.check.Laid.the-variants as L
+
+-- what the size of a tree tells of the node after it
+pub after-wrong : (D : Got (Tree Span)) → sized D ≡ Wrong → L.Wrong ≡ laidAs (after D)
+unfolding sized laidAs
+after-wrong (got t e) h = let z : _≡_ {A = ℕ} 0 1 = cc in absurd (omega arith)
+after-wrong (bad x) h = refl
+
+pub after-next : (D : Got (Tree Span)) (next place : ℕ) → sized D ≡ Done next place → L.Next next ≡ laidAs (after D)
+unfolding sized laidAs
+after-next (got t e) next place h = let p : e ≡ next = cc in rw p
+after-next (bad x) next place h = let z : _≡_ {A = ℕ} 0 1 = cc in absurd (omega arith)
+
+-- the names of a descriptor
+module _ (tx nd : List ℕ) (limit n : ℕ) (R : Emitted) (is : R ≡ sized (table limit nd n 0)) where
+  pub desc-wrong : R ≡ Wrong → Refused (BadMessage Layout) ≡ verdict (heldIn (table limit nd n 0) tx)
+  unfolding sized heldIn verdict
+  desc-wrong w = go (table limit nd n 0) refl (sym is ∙ w)
+    where
+      go : (D : Got (Tree Span)) → table limit nd n 0 ≡ D → sized D ≡ Wrong → Refused (BadMessage Layout) ≡ verdict (heldIn D tx)
+      go (got t e) h k = let z : _≡_ {A = ℕ} 0 1 = cc in absurd (omega arith)
+      go (bad x) h k = let p : x ≡ BadMessage Layout = table-bad tx nd limit n 0 x h in rw p
+
+  module _ (next place : ℕ) (done : R ≡ Done next place) where
+    -- a descriptor has a node
+    pub desc-inside : n < next
+    unfolding sized
+    desc-inside = go (table limit nd n 0) (table-laid limit nd n 0) (sym is ∙ done)
+      where
+        go : (D : Got (Tree Span)) → GotAs (Laid limit 0 nd n) D → sized D ≡ Done next place → n < next
+        go (got t e) l k = let p : e ≡ next = cc in let q = l .next in let o = some-size t in omega arith
+        go (bad x) l k = let z : _≡_ {A = ℕ} 0 1 = cc in absurd (omega arith)
+
+    pub desc-names : (v : Names) → v ≡ namesFrom tx nd (n + 1) (next - (n + 1)) → v ≡ verdict (heldIn (table limit nd n 0) tx)
+    unfolding sized heldIn
+    desc-names v names = go (table limit nd n 0) refl (sym is ∙ done)
+      where
+        go : (D : Got (Tree Span)) → table limit nd n 0 ≡ D → sized D ≡ Done next place → v ≡ verdict (heldIn D tx)
+        go (got t e) h k = let p : e ≡ next = cc in names ∙ table-verdict tx nd limit n 0 next t (rw (← p) h)
+        go (bad x) h k = let z : _≡_ {A = ℕ} 0 1 = cc in absurd (omega arith)
+
+-- The layout of types
+
+abbrev LayoutOnly : Held ℕ → Type 0
+LayoutOnly (held n) = Unit
+LayoutOnly (lacks e) = e ≡ BadMessage Layout
+
+then-layout : (H : Held ℕ) (k : ℕ → Held ℕ) → LayoutOnly H → ((m : ℕ) → LayoutOnly (k m)) → LayoutOnly (thenHeld H k)
+then-layout (held n) k h g = g n
+then-layout (lacks e) k h g = h
+
+after-layout : (limit : ℕ) (nd : List ℕ) (n : ℕ) → LayoutOnly (after (table limit nd n 0))
+after-layout limit nd n = go (table limit nd n 0) refl
+  where
+    go : (D : Got (Tree Span)) → table limit nd n 0 ≡ D → LayoutOnly (after D)
+    go (got t e) h = tt
+    go (bad x) h = table-bad [] nd limit n 0 x h
+
+type-layout : (limit : ℕ) (rs nd : List ℕ) (r n : ℕ) → LayoutOnly (typeLaid limit rs nd r n)
+unfolding typeLaid
+type-layout limit rs nd r n =
+    pick-both LayoutOnly (eqb (getD rs (r + 5) 0) n)
+    (then-layout (after (table limit nd n 0)) (λ m. pick (yes (getD rs (r + 4) 0)) (after (table limit nd m 0)) (held m)) (after-layout limit nd n)
+    (λ m. pick-both LayoutOnly (yes (getD rs (r + 4) 0)) {a = after (table limit nd m 0)} {b = held m} (after-layout limit nd m) tt))
+    refl
+
+-- one turn over the types
+module _ (limit : ℕ) (rs nd : List ℕ) where
+  laid-turn : (left r n : ℕ) → 0 < left → typesLaid limit rs nd left r n ≡ thenHeld (typeLaid limit rs nd r n) (λ m. typesLaid limit rs nd (left - 1) (r + 6) m)
+  unfolding typesLaid
+  laid-turn zero r n p = absurd (omega arith)
+  laid-turn (suc left) r n p = let l : suc left - 1 ≡ left = omega arith in rw l
+
+  pub type-next : (left r n m : ℕ) → 0 < left → L.Next m ≡ laidAs (typeLaid limit rs nd r n) → typesLaid limit rs nd left r n ≡ typesLaid limit rs nd (left - 1) (r + 6) m
+  unfolding laidAs
+  type-next left r n m p h = laid-turn left r n p ∙ go (typeLaid limit rs nd r n) h
+    where
+      go : (H : Held ℕ) → L.Next m ≡ laidAs H → thenHeld H (λ k. typesLaid limit rs nd (left - 1) (r + 6) k) ≡ typesLaid limit rs nd (left - 1) (r + 6) m
+      go (held k) e = let q : k ≡ m = cc in rw q
+      go (lacks x) e = let z : _≡_ {A = ℕ} 0 1 = cc in absurd (omega arith)
+
+  pub type-wrong : (left r n : ℕ) → 0 < left → L.Wrong ≡ laidAs (typeLaid limit rs nd r n) → verdict (typesLaid limit rs nd left r n) ≡ Refused (BadMessage Layout)
+  unfolding laidAs verdict
+  type-wrong left r n p h = ap verdict (laid-turn left r n p) ∙ go (typeLaid limit rs nd r n) (type-layout limit rs nd r n) h
+    where
+      go : (H : Held ℕ) → LayoutOnly H → L.Wrong ≡ laidAs H → verdict (thenHeld H (λ k. typesLaid limit rs nd (left - 1) (r + 6) k)) ≡ Refused (BadMessage Layout)
+      go (held k) l e = let z : _≡_ {A = ℕ} 0 1 = cc in absurd (omega arith)
+      go (lacks x) l e = rw l
+
+  pub laid-end : (left r n : ℕ) → left ≤ 0 → Good ≡ verdict (typesLaid limit rs nd left r n)
+  unfolding typesLaid verdict
+  laid-end zero r n h = refl
+  laid-end (suc left) r n h = absurd (omega arith)
+
+  -- the type whose row starts at number r
+  module _ (r n key : ℕ) (here : key ≡ getD rs (r + 5) 0) where
+    pub key-elsewhere : (key ≡ n → ⊥) → L.Wrong ≡ laidAs (typeLaid limit rs nd r n)
+    unfolding typeLaid laidAs
+    key-elsewhere h = rw (← here, ne-eqb key n h)
+
+    module _ (there : key ≡ n) where
+      at-key : typeLaid limit rs nd r n ≡ thenHeld (after (table limit nd n 0)) (λ m. pick (yes (getD rs (r + 4) 0)) (after (table limit nd m 0)) (held m))
+      unfolding typeLaid
+      at-key = rw (← here, eq-eqb key n there)
+
+      pub key-wrong : L.Wrong ≡ laidAs (after (table limit nd n 0)) → L.Wrong ≡ laidAs (typeLaid limit rs nd r n)
+      unfolding laidAs
+      key-wrong h = rw at-key (go (after (table limit nd n 0)) h)
+        where
+          go : (H : Held ℕ) → L.Wrong ≡ laidAs H → L.Wrong ≡ laidAs (thenHeld H (λ m. pick (yes (getD rs (r + 4) 0)) (after (table limit nd m 0)) (held m)))
+          go (held k) e = let z : _≡_ {A = ℕ} 0 1 = cc in absurd (omega arith)
+          go (lacks x) e = refl
+
+      module _ (m has : ℕ) (key-is : L.Next m ≡ laidAs (after (table limit nd n 0))) (has-is : has ≡ getD rs (r + 4) 0) where
+        past-key : typeLaid limit rs nd r n ≡ pick (yes has) (after (table limit nd m 0)) (held m)
+        unfolding laidAs
+        past-key = at-key ∙ rw (← has-is) (go (after (table limit nd n 0)) key-is)
+          where
+            go : (H : Held ℕ) → L.Next m ≡ laidAs H → thenHeld H (λ k. pick (yes has) (after (table limit nd k 0)) (held k)) ≡ pick (yes has) (after (table limit nd m 0)) (held m)
+            go (held k) e = let q : k ≡ m = cc in rw q
+            go (lacks x) e = let z : _≡_ {A = ℕ} 0 1 = cc in absurd (omega arith)
+
+        pub no-value : has ≡ 0 → L.Next m ≡ laidAs (typeLaid limit rs nd r n)
+        unfolding laidAs
+        no-value z = rw (past-key, eq-eqb has 0 z)
+
+        pub value-laid : (has ≡ 0 → ⊥) → laidAs (after (table limit nd m 0)) ≡ laidAs (typeLaid limit rs nd r n)
+        value-laid z = rw (past-key, ne-eqb has 0 z)
+
+-- the texts of a type
+pub type-names : (limit : ℕ) (tx rs nd : List ℕ) (r start len has key : ℕ) (a b c d e : Names) → start ≡ getD rs (r + 1) 0 → len ≡ getD rs (r + 2) 0
+    → has ≡ getD rs (r + 4) 0 → key ≡ getD rs (r + 5) 0 → a ≡ verdict (nameHeld tx start len) → b ≡ verdict (heldIn (table limit nd key 0) tx)
+    → c ≡ valueNames limit tx nd has key → d ≡ thenNames b c → e ≡ thenNames a d → e ≡ rowNames Predicate limit tx rs nd r
+unfolding rowNames
+type-names limit tx rs nd r start len has key a b c d e s l h k p q v x y = rw (y, x, p, q, v, s, l, h, k) refl
