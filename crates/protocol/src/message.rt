@@ -4,9 +4,6 @@ ghost use Rattle.protocol.specs.Codes.{modeOf, modeByte, errorOf, errorB
 ghost use Rattle.protocol.specs.Rows.{widthOf};
 use varint::error::Refusal;
 
-// The most ids that a fetch may ask for.
-pub const MAX_FETCH: u64 = 4096;
-
 // How a session is opened.
 pub enum Mode {
     ReadOnly,
@@ -143,6 +140,14 @@ pub enum RowKind {
 pub enum Answer {
     Accepted(Message),
     Refused(Refusal),
+}
+
+impl Message {
+    // The version of the protocol that is spoken here.
+    pub const VERSION: u32 = 4;
+
+    // The most ids that a fetch may ask for.
+    pub const MAX_FETCH: u64 = 4096;
 }
 
 impl RowKind {

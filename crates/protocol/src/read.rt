@@ -41,7 +41,6 @@ use crate::fields::read_op;
 use crate::fields::read_text;
 use crate::message::ControlOp;
 use crate::message::ControlReply;
-use crate::message::MAX_FETCH;
 use crate::message::Message;
 use crate::message::RowKind;
 use crate::message::Span;
@@ -541,10 +540,10 @@ pub(crate) fn read_fetch(
                 value: count,
                 next: p,
             } => {
-                if MAX_FETCH < count {
+                if Message::MAX_FETCH < count {
                     return Found::Refused(Refusal::BlockTooLarge {
                         declared: count,
-                        max: MAX_FETCH,
+                        max: Message::MAX_FETCH,
                     });
                 }
                 match read_rows(RowKind::Pair, count, s, p, check, 0, text, 0, rows, nodes) {

@@ -28,7 +28,7 @@ use Rattle.protocol.specs.Fields.{yes}
 use Rattle.protocol.specs.declared.message.RowKind.the-variants.{Predicate}
 use Rattle.protocol.specs.Types.{after, typeLaid, typesLaid}
 use Rattle.protocol_write.specs.Checking.{laidAs, valueNames, rowNames}
-use Rattle.protocol_write.specs.declared.check.Laid.the-variants as L
+use Rattle.protocol_write.specs.declared.checks.Laid.the-variants as L
 
 -- what the size of a tree tells of the node after it
 pub after-wrong : (D : Got (Tree Span)) → sized D ≡ Wrong → L.Wrong ≡ laidAs (after D)

@@ -31,8 +31,8 @@ use Rattle.protocol.specs.declared.message.Message.the-variants as Msg
 use Rattle.protocol.specs.declared.message.RowKind.{RowKind}
 use Rattle.protocol.specs.declared.message.RowKind.the-variants.{Claim, Id, Predicate, Step, Pair}
 use Rattle.protocol.specs.declared.message.Span.{Span}
-use Rattle.protocol_write.specs.declared.check.Laid.{Laid}
-use Rattle.protocol_write.specs.declared.check.Laid.the-variants as L
+use Rattle.protocol_write.specs.declared.checks.Laid.{Laid}
+use Rattle.protocol_write.specs.declared.checks.Laid.the-variants as L
 
 -- are the numbers of the row at number r such that a message may have them?
 unfoldable pub rowGood : RowKind → List ℕ → ℕ → Bool

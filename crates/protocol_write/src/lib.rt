@@ -1,5 +1,5 @@
 // Encoding the session messages of fjord (protocol.rs): a message and the lent memory that it points into, back to a frame's payload.
-mod check;
+mod checks;
 mod write;
 
 ghost use mathlib.Core.Path.{_≡_};
@@ -7,7 +7,7 @@ ghost use Prim.Native.Nat.{_≤_};
 ghost use Rattle.protocol.specs.Encoding.{encodeMessage};
 ghost use Rattle.protocol.specs.declared.message.Message.the-variants as Msg;
 ghost use Rattle.protocol_write.specs.Writing.{sizeOf};
-use check::check_message;
+use checks::check_message;
 use desc::MAX_DEPTH;
 use desc::MAX_PAYLOAD;
 use desc::write::Names;
