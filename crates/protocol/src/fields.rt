@@ -124,8 +124,11 @@ pub(crate) fn read_wide_flag(s: &[u8], at: usize) -> ReadFlag
 {
     match get_u64(s, at) {
         ReadU64::Refused(r) => ReadFlag::Refused(r),
-        ReadU64::Value { value, next } => ReadFlag::Flag {
-            yes: value != 0,
+        ReadU64::Value {
+            value: number,
+            next,
+        } => ReadFlag::Flag {
+            yes: number != 0,
             next,
         },
     }

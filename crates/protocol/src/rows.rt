@@ -7,7 +7,7 @@ ghost use lib.ListN.{length};
 ghost use Rattle.varint.specs.Formats.{varint};
 ghost use Rattle.desc.specs.Decoding.{measured};
 ghost use Rattle.desc.specs.Reading.{desc};
-ghost use Rattle.protocol.specs.Fetch.{pair};
+ghost use Rattle.protocol.specs.Fetch.{badFact, pair};
 ghost use Rattle.protocol.specs.Fields.{bit, descriptor, optionalOn};
 ghost use Rattle.protocol.specs.Ids.{idWidth, layId};
 ghost use Rattle.protocol.specs.Loading.{stored, LoadsFlat, LoadsCells, beside, LoadsNodes, descLeft, Within, load, loadRow, LoadsRows, toldRow, sides, laySides};
@@ -318,6 +318,13 @@ fn read_id(s: &[u8], at: usize, check: bool, t: usize, rows: &mut [u64], r: usiz
     }
 }
 
+// The refusal of a pair that is no fact's id.
+fn bad_fact(predicate: u64, sequence: u64) -> Refusal
+    ensures { λ r. ⌜ r ≡ badFact (predicate, sequence) ⌝ }
+{
+    Refusal::BadFactId((predicate << 40) | sequence)
+}
+
 // Both halves are read before either is looked at.
 fn read_pair(s: &[u8], at: usize, check: bool, t: usize, rows: &mut [u64], r: usize) -> Flat
     ensures { λ x. ⌜ LoadsCells check layId (pair .read (now (s .entry)) at) t (now (rows .entry)) r idWidth x (now (rows .exit)) ⌝ }
@@ -337,10 +344,10 @@ fn read_pair(s: &[u8], at: usize, check: bool, t: usize, rows: &mut [u64], r: us
                     return Flat::Refused(Refusal::UnknownPredicate);
                 }
                 if 0x100_0000 <= predicate {
-                    return Flat::Refused(Refusal::BadFactId((predicate << 40) | sequence));
+                    return Flat::Refused(bad_fact(predicate, sequence));
                 }
                 if 0x100_0000_0000 <= sequence {
-                    return Flat::Refused(Refusal::BadFactId((predicate << 40) | sequence));
+                    return Flat::Refused(bad_fact(predicate, sequence));
                 }
                 store_one(check, rows, r, predicate * 0x100_0000_0000 + sequence);
                 Flat::Read { next: end, text: t }

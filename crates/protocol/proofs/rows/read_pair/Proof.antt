@@ -8,6 +8,7 @@ use Rattle.protocol.proofs.rows.read_pair.Statement.{statement}
 use Rattle.protocol.proofs.rows.read_pair.Tie as tie
 use Rattle.protocol.proofs.rows.read_pair.Reads as reads
 use Rattle.protocol.proofs.rows.read_pair.Lts as lts
+use Rattle.protocol.proofs.rows.bad_fact.Reads as bad-fact-reads
 use Rattle.protocol.proofs.rows.store_one.Reads as store-one-reads
 use Rattle.varint.proofs.get_u64.Reads as get-u64-reads
 
@@ -32,11 +33,17 @@ enum-known-sequence c = search needs
 returns : tie.Need-returns
 returns c = cells-refused (pair-wide (c .before .before .before .before .before .before .before .before .before .before .before .args .s .now) (c .before .before .before .before .before .before .before .before .before .before .before .args .at) (sym (c .before .before .before .before .before .before .before .before .get-u64 .ensures) ∙ c .before .before .before .before .before .before .predicate .given .1) (sym (c .before .before .before .before .get-u642 .ensures) ∙ c .before .before .sequence .given .1) (c .if1 .taken))
 
+bad-fact-requires : tie.Need-bad-fact-requires
+bad-fact-requires c κs = search needs
+
 returns-2 : tie.Need-returns-2
-returns-2 c = cells-refused (pair-bad-predicate (c .before .before .before .before .before .before .before .before .before .before .before .before .args .s .now) (c .before .before .before .before .before .before .before .before .before .before .before .before .args .at) (sym (c .before .before .before .before .before .before .before .before .before .get-u64 .ensures) ∙ c .before .before .before .before .before .before .before .predicate .given .1) (sym (c .before .before .before .before .before .get-u642 .ensures) ∙ c .before .before .before .sequence .given .1) (c .before .if1 .left) (c .if2 .taken))
+returns-2 c = rw (c .bad-fact .ensures) (cells-refused (pair-bad-predicate (c .before .before .before .before .before .before .before .before .before .before .before .before .before .args .s .now) (c .before .before .before .before .before .before .before .before .before .before .before .before .before .args .at) (sym (c .before .before .before .before .before .before .before .before .before .before .get-u64 .ensures) ∙ c .before .before .before .before .before .before .before .before .predicate .given .1) (sym (c .before .before .before .before .before .before .get-u642 .ensures) ∙ c .before .before .before .before .sequence .given .1) (c .before .before .if1 .left) (c .before .if2 .taken)))
+
+bad-fact-requires-2 : tie.Need-bad-fact-requires-2
+bad-fact-requires-2 c κs = search needs
 
 returns-3 : tie.Need-returns-3
-returns-3 c = cells-refused (pair-bad-sequence (c .before .before .before .before .before .before .before .before .before .before .before .before .before .args .s .now) (c .before .before .before .before .before .before .before .before .before .before .before .before .before .args .at) (sym (c .before .before .before .before .before .before .before .before .before .before .get-u64 .ensures) ∙ c .before .before .before .before .before .before .before .before .predicate .given .1) (sym (c .before .before .before .before .before .before .get-u642 .ensures) ∙ c .before .before .before .before .sequence .given .1) (c .before .before .if1 .left) (c .before .if2 .left) (c .if3 .taken))
+returns-3 c = rw (c .bad-fact2 .ensures) (cells-refused (pair-bad-sequence (c .before .before .before .before .before .before .before .before .before .before .before .before .before .before .args .s .now) (c .before .before .before .before .before .before .before .before .before .before .before .before .before .before .args .at) (sym (c .before .before .before .before .before .before .before .before .before .before .before .get-u64 .ensures) ∙ c .before .before .before .before .before .before .before .before .before .predicate .given .1) (sym (c .before .before .before .before .before .before .before .get-u642 .ensures) ∙ c .before .before .before .before .before .sequence .given .1) (c .before .before .before .if1 .left) (c .before .before .if2 .left) (c .before .if3 .taken)))
 
 mul-store-one : tie.Need-mul-store-one
 mul-store-one c = search needs
@@ -70,7 +77,9 @@ read-pair-spec =
     enum-known-e-2
     enum-known-sequence
     returns
+    bad-fact-requires
     returns-2
+    bad-fact-requires-2
     returns-3
     mul-store-one
     add-store-one
