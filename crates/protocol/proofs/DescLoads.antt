@@ -7,19 +7,18 @@ use native.Mathlib.Nat.{add-zero}
 use native.Mathlib.Omega.{arith}
 use borrow.Author.Tests.{le-leb}
 use lib.ListN.{length}
-use Rattle.varint.specs.Choice.{pick}
 use Rattle.varint.specs.Formats.{Got, got, bad, then}
 use Rattle.varint.specs.declared.error.Refusal.{Refusal}
-use Rattle.desc.specs.Decoding.{measured, Stored, storedAs, filledBy, fillDesc}
+use Rattle.desc.specs.Decoding.{measured, storedAs, filledBy, fillDesc}
 use Rattle.desc.specs.Layout.{width, texts, placed, rows}
 use Rattle.desc.specs.Reading.{desc}
 use Rattle.desc.specs.Trees.{Tree, size}
 use Rattle.desc.specs.declared.Walked.{Walked}
 use Rattle.desc.specs.declared.Walked.the-variants.{Read, Refused}
 use Rattle.desc.proofs.Bounds.{measured-bounds}
-use Rattle.protocol.specs.Fields.{descriptor, optionalOn, Optional, absent, present}
-use Rattle.protocol.specs.Loading.{stored, Mem, put, Loaded, loaded, failed, load, toldRow, LoadsNodes, descLeft, Within}
-use Rattle.protocol.specs.Pieces.{Piece, tree}
+use Rattle.protocol.specs.Fields.{descriptor, optionalOn, present}
+use Rattle.protocol.specs.Loading.{stored, Mem, put, loaded, load, toldRow, LoadsNodes, descLeft, Within}
+use Rattle.protocol.specs.Pieces.{tree}
 use Rattle.protocol.specs.Types.{layValue}
 use Rattle.protocol.proofs.PieceLaws.{put-none}
 use Rattle.protocol.proofs.RowStores.{stored-none}

@@ -1,10 +1,9 @@
 -- What a message is, field by field.
 use mathlib.Core.Bool.{Bool, true, false}
-use mathlib.Core.Path.{_≡_, refl, sym, _∙_, ap}
-use mathlib.Core.List.{List, [], _++_}
-use Prim.Native.Nat.{ℕ, _+_, _-_, _≤_, _<_}
-use native.Mathlib.Omega.{arith}
-use borrow.Author.Tests.{lt-ltb, le-ltb, le-leb, lt-leb}
+use mathlib.Core.Path.{_≡_, refl}
+use mathlib.Core.List.{List}
+use Prim.Native.Nat.{ℕ, _+_, _-_, _≤_}
+use borrow.Author.Tests.{le-ltb, le-leb}
 use lib.Dec.{ltb}
 use lib.ListN.{length, drop}
 use Rattle.varint.specs.Choice.{pick}
@@ -15,7 +14,6 @@ use Rattle.varint.specs.Stores.{part}
 use Rattle.varint.specs.Utf8.{utf8}
 use Rattle.varint.specs.declared.ReadU64.the-variants.{Value}
 use Rattle.varint.specs.declared.error.Mismatch.the-variants as M
-use Rattle.varint.specs.declared.error.Refusal.{Refusal}
 use Rattle.varint.specs.declared.error.Refusal.the-variants.{TrailingBytes, BadString}
 use Rattle.varint.specs.declared.text.ReadText.the-variants.{Text}
 use Rattle.varint.proofs.Basics.{clash}
@@ -28,16 +26,15 @@ use Rattle.protocol.specs.Error.{readError}
 use Rattle.protocol.specs.Fetch.{digest, pair, readFetch}
 use Rattle.protocol.specs.Fields.{textBy, errorCode, controlOp, flag, mode, toEnd}
 use Rattle.protocol.specs.Ids.{readIds}
-use Rattle.protocol.specs.Laying.{Laid}
 use Rattle.protocol.specs.Loading.{laidAs, layFinished, session}
 use Rattle.protocol.specs.Page.{readPage}
 use Rattle.protocol.specs.Profile.{Step, step, readProfile}
-use Rattle.protocol.specs.Reply.{Reply, Finished, created, finished, removed, finish, replyOn, readReply, layReply}
+use Rattle.protocol.specs.Reply.{Finished, created, finished, removed, finish, replyOn, readReply, layReply}
 use Rattle.protocol.specs.Startup.{Claim, claim}
 use Rattle.protocol.specs.Types.{Predicate, predicate, readTypes}
 use Rattle.protocol.specs.Wholes.{ended}
 use Rattle.protocol.specs.declared.message.ControlOp.{ControlOp}
-use Rattle.protocol.specs.declared.message.ControlOp.the-variants.{Create, Finish, Remove}
+use Rattle.protocol.specs.declared.message.ControlOp.the-variants.{Create, Finish}
 use Rattle.protocol.specs.declared.message.Digest.{Digest}
 use Rattle.protocol.specs.declared.message.ErrorCode.{ErrorCode}
 use Rattle.protocol.specs.declared.message.Mode.{Mode}

@@ -1,7 +1,7 @@
 -- A message that was read, or not, as its reader tells it.
 use mathlib.Core.Bool.{Bool, true, false}
-use mathlib.Core.Path.{_≡_, refl, sym, _∙_, ap}
-use mathlib.Core.List.{List, [], _++_}
+use mathlib.Core.Path.{_≡_, refl, sym, ap}
+use mathlib.Core.List.{List}
 use Prim.Native.Nat.{ℕ, _+_, _-_, _≤_}
 use lib.Dec.{ltb}
 use native.Mathlib.Nat.{zero-add}
@@ -13,12 +13,11 @@ use Rattle.varint.specs.declared.error.Refusal.{Refusal}
 use Rattle.varint.specs.declared.error.Refusal.the-variants.{TrailingBytes}
 use Rattle.varint.proofs.FormatParts.{went, got-of, no-got}
 use Rattle.protocol.specs.Laying.{Laid}
-use Rattle.protocol.specs.Loading.{stored, done, refused, outcome, laidAs, told, bare, ReadsBare, Reads, ReadsText, layFinished}
-use Rattle.protocol.specs.Pieces.{Piece, none, words, _⊕_}
+use Rattle.protocol.specs.Loading.{stored, outcome, laidAs, told, bare, ReadsBare, ReadsText, layFinished}
+use Rattle.protocol.specs.Pieces.{none, words, _⊕_}
 use Rattle.protocol.specs.Reply.{removed, finish, layReply}
 use Rattle.protocol.specs.Said.{Said, saying, lay}
 use Rattle.protocol.specs.Wholes.{ended}
-use Rattle.protocol.specs.declared.message.Message.{Message}
 use Rattle.protocol.specs.declared.read.Found.{Found}
 use Rattle.protocol.specs.declared.read.Found.the-variants.{Read, Refused}
 use Rattle.protocol.proofs.RowStores.{stored-none, stored-append}

@@ -1,7 +1,7 @@
 -- Pieces in memory, one after the other.
-use mathlib.Core.Bool.{Bool, true, false}
-use mathlib.Core.Path.{_≡_, refl, sym, _∙_, ap}
-use mathlib.Core.List.{List, [], _∷_, _++_, append-nil}
+use mathlib.Core.Bool.{Bool}
+use mathlib.Core.Path.{_≡_, sym, _∙_, ap}
+use mathlib.Core.List.{List, _++_}
 use Prim.Native.Nat.{ℕ, _+_, _*_}
 use native.Mathlib.Nat.{add-assoc, add-zero}
 use native.Mathlib.Omega.{arith}
@@ -10,7 +10,7 @@ use Rattle.desc.specs.Layout.{width, placed, rows}
 use Rattle.desc.specs.Trees.{Tree, size}
 use Rattle.desc.proofs.LayoutLaws.{size-placed, length-rows}
 use Rattle.protocol.specs.Loading.{stored, Mem, put}
-use Rattle.protocol.specs.Pieces.{Piece, none, words, cells, tree, _⊕_, many}
+use Rattle.protocol.specs.Pieces.{Piece, none, tree, _⊕_}
 use Rattle.protocol.proofs.RowStores.{stored-append, stored-none}
 
 -- a piece's nodes have seven numbers each

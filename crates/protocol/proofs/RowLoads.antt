@@ -1,6 +1,6 @@
 -- A row that was read, or not, as its reader tells it.
 use mathlib.Core.Bool.{Bool}
-use mathlib.Core.Path.{_≡_, refl, sym, _∙_, ap}
+use mathlib.Core.Path.{_≡_, refl, _∙_, ap}
 use mathlib.Core.List.{List, []}
 use Prim.Native.Nat.{ℕ, _+_, _*_}
 use native.Mathlib.Nat.{add-zero}
@@ -8,7 +8,7 @@ use lib.ListN.{length}
 use Rattle.varint.specs.Formats.{Got, got, bad}
 use Rattle.varint.specs.declared.error.Refusal.{Refusal}
 use Rattle.desc.specs.Layout.{width}
-use Rattle.protocol.specs.Loading.{stored, Mem, put, loaded, load, toldRow, toldFlat, beside, LoadsFlat, LoadsCells}
+use Rattle.protocol.specs.Loading.{stored, put, loaded, load, toldRow, toldFlat, beside, LoadsFlat, LoadsCells}
 use Rattle.protocol.specs.Pieces.{Piece}
 use Rattle.desc.specs.declared.Walked.{Walked}
 use Rattle.protocol.specs.declared.rows.Flat.{Flat}

@@ -1,44 +1,30 @@
 -- Messages with rows, as their readers tell them.
-use mathlib.Core.Bool.{Bool, true, false}
+use mathlib.Core.Bool.{Bool}
 use mathlib.Core.Path.{_≡_, refl, sym, _∙_, ap}
-use mathlib.Core.List.{List, [], _∷_, _++_}
-use Prim.Native.Nat.{ℕ, suc, _+_, _*_, _≤_}
+use mathlib.Core.List.{List, [], _∷_}
+use Prim.Native.Nat.{ℕ, _+_, _*_}
 use native.Mathlib.Nat.{zero-add}
 use native.Mathlib.Omega.{arith}
-use borrow.Author.Tests.{le-leb, lt-leb}
-use lib.ListN.{length, length-append}
-use Rattle.varint.specs.Choice.{pick}
-use Rattle.varint.specs.Formats.{Got, got, bad, Format, varint, readTimes, then}
-use Rattle.varint.specs.Leb128.{getU64}
-use Rattle.varint.specs.Stores.{part}
-use Rattle.varint.specs.declared.ReadU64.the-variants.{Value}
-use Rattle.varint.specs.declared.error.Mismatch.the-variants as M
+use lib.ListN.{length}
+use Rattle.varint.specs.Formats.{Got, got, bad, Format, varint, readTimes}
 use Rattle.varint.specs.declared.error.Refusal.{Refusal}
-use Rattle.varint.specs.declared.error.Refusal.the-variants.{TypeMismatch}
-use Rattle.varint.specs.declared.text.ReadText.the-variants.{Text}
 use Rattle.varint.proofs.FormatParts.{times-length}
 use Rattle.desc.specs.Layout.{width}
-use Rattle.desc.specs.Reading.{nameBy}
 use Rattle.desc.specs.declared.Walked.{Walked}
 use Rattle.desc.specs.declared.Walked.the-variants as W
 use Rattle.protocol.specs.Fetch.{pair}
-use Rattle.protocol.specs.Fields.{narrow}
 use Rattle.protocol.specs.Ids.{layId}
 use Rattle.protocol.specs.Laying.{Laid}
-use Rattle.protocol.specs.Loading.{stored, Mem, put, Loaded, loaded, failed, load, loadRows, toldRow, LoadsRows, done, refused, outcome, laidAs, told, Reads, session, sessionOf, sessionOutcome, SessionRead}
-use Rattle.protocol.specs.Pieces.{Piece, words, _⊕_, many}
+use Rattle.protocol.specs.Loading.{stored, Mem, put, loaded, failed, load, loadRows, toldRow, LoadsRows, refused, outcome, told, Reads}
+use Rattle.protocol.specs.Pieces.{Piece, many}
 use Rattle.protocol.specs.Profile.{step, layStep}
-use Rattle.protocol.specs.Startup.{Claim, claim, layClaim, Startup, toStartup, startup, readStartup, layStartup}
+use Rattle.protocol.specs.Startup.{Claim, claim, layClaim}
 use Rattle.protocol.specs.Types.{predicate, layPredicate}
-use Rattle.protocol.specs.Wholes.{ended, versioned}
-use Rattle.protocol.specs.declared.message.Message.{Message}
-use Rattle.protocol.specs.declared.message.Mode.{Mode}
 use Rattle.protocol.specs.declared.message.RowKind.the-variants as K
 use Rattle.protocol.specs.declared.read.Found.{Found}
 use Rattle.protocol.specs.declared.read.Found.the-variants.{Read, Refused}
 use Rattle.protocol.proofs.PieceLaws.{Seven, join-seven}
 use Rattle.protocol.proofs.RowEnds.{predicate-nodes}
-use Rattle.protocol.proofs.RowStores.{stored-append}
 use Rattle.protocol.proofs.RowsLoop.{mem}
 
 many-seven : {A : Type 0} (piece : A → Piece) → ((a : A) → Seven (piece a)) → (l : List A) → Seven (many piece l)

@@ -1,8 +1,8 @@
 -- Rows of every kind, one after the other.
 use mathlib.Core.Bool.{Bool}
-use mathlib.Core.Path.{_≡_, refl, sym, _∙_, ap}
+use mathlib.Core.Path.{_≡_, refl, ap}
 use mathlib.Core.List.{List, _∷_}
-use Prim.Native.Nat.{ℕ, zero, suc, _+_, _*_, _≤_, _<_}
+use Prim.Native.Nat.{ℕ, suc, _+_, _*_, _≤_, _<_}
 use native.Mathlib.Omega.{arith}
 use lib.ListN.{length}
 use Rattle.varint.specs.Formats.{Got, got, bad, then, Format, varint, readTimes}
@@ -10,7 +10,7 @@ use Rattle.varint.specs.declared.error.Refusal.{Refusal}
 use Rattle.varint.proofs.FormatEnds.{Ends, varint-ends}
 use Rattle.protocol.specs.Fetch.{pair}
 use Rattle.protocol.specs.Ids.{layId}
-use Rattle.protocol.specs.Loading.{Mem, put, Loaded, loaded, failed, load, loadRow, loadRows}
+use Rattle.protocol.specs.Loading.{Mem, put, loaded, failed, load, loadRow, loadRows}
 use Rattle.protocol.specs.Pieces.{Piece, many}
 use Rattle.protocol.specs.Profile.{step, layStep}
 use Rattle.protocol.specs.Rows.{widthOf}

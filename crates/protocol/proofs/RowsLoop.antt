@@ -2,11 +2,10 @@
 use mathlib.Core.Bool.{Bool}
 use mathlib.Core.Path.{_≡_, refl, sym, _∙_, ap}
 use mathlib.Core.List.{List}
-use Prim.Native.Nat.{ℕ, zero, suc, _+_, _-_, _*_, _≤_, _<_}
+use Prim.Native.Nat.{ℕ, suc, _+_, _-_, _*_, _≤_, _<_}
 use native.Mathlib.Omega.{arith}
 use lib.ListN.{length}
 use Rattle.varint.specs.declared.error.Refusal.{Refusal}
-use Rattle.desc.specs.declared.Walked.{Walked}
 use Rattle.desc.specs.declared.Walked.the-variants.{Read, Refused}
 use Rattle.protocol.specs.Loading.{Mem, Loaded, loaded, failed, loadRow, loadRows, toldRow, Within, LoadsRows}
 use Rattle.protocol.specs.Rows.{widthOf}

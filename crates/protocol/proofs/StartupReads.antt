@@ -1,8 +1,8 @@
 -- Startup, as its two readers tell it.
 use mathlib.Core.Bool.{Bool, true, false}
-use mathlib.Core.Path.{_≡_, refl, sym, _∙_, ap}
-use mathlib.Core.List.{List, _++_}
-use Prim.Native.Nat.{ℕ, _+_, _-_, _*_, _≤_, _<_}
+use mathlib.Core.Path.{_≡_, refl, _∙_}
+use mathlib.Core.List.{List}
+use Prim.Native.Nat.{ℕ, _-_, _*_, _≤_, _<_}
 use native.Mathlib.Nat.{zero-add}
 use borrow.Author.Tests.{le-ltb, le-leb, lt-leb}
 use lib.Dec.{ltb}
@@ -20,7 +20,7 @@ use Rattle.desc.specs.Layout.{width}
 use Rattle.desc.specs.Reading.{nameBy}
 use Rattle.protocol.specs.Fields.{narrow}
 use Rattle.protocol.specs.Loading.{stored, outcome, laidAs, told, Reads, session, sessionOf, sessionOutcome, SessionRead}
-use Rattle.protocol.specs.Pieces.{Piece, many}
+use Rattle.protocol.specs.Pieces.{many}
 use Rattle.protocol.specs.Startup.{Claim, claim, layClaim, toStartup, readStartup, layStartup}
 use Rattle.protocol.specs.Wholes.{ended}
 use Rattle.protocol.specs.declared.message.Mode.{Mode}

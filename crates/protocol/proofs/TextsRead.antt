@@ -6,7 +6,7 @@ use Prim.Native.Nat.{ℕ, _+_, _≤_, _<_}
 use native.Mathlib.Omega.{arith}
 use lib.ListN.{length}
 use Rattle.varint.specs.Stores.{part}
-use Rattle.varint.specs.Texts.{skimText, getText}
+use Rattle.varint.specs.Texts.{skimText}
 use Rattle.varint.specs.declared.text.ReadText.{ReadText}
 use Rattle.varint.specs.declared.text.ReadText.the-variants.{Text, Refused}
 use Rattle.varint.proofs.FormatParts.{get-name}

@@ -3,7 +3,7 @@ use mathlib.Core.Bool.{Bool, true, false}
 use mathlib.Core.Path.{_≡_, refl, sym, _∙_, ap}
 use mathlib.Core.List.{List, [], _∷_, _++_}
 use Prim.Native.Nat.{ℕ, _+_, _*_, _≤_}
-use native.Mathlib.Nat.{add-zero, zero-add}
+use native.Mathlib.Nat.{add-zero}
 use native.Mathlib.Omega.{arith}
 use borrow.Author.Tests.{le-leb}
 use lib.ListN.{length}
@@ -19,10 +19,10 @@ use Rattle.desc.specs.Reading.{nameBy, desc}
 use Rattle.desc.specs.Trees.{Tree}
 use Rattle.desc.specs.declared.Walked.{Walked}
 use Rattle.desc.specs.declared.Walked.the-variants.{Read, Refused}
-use Rattle.protocol.specs.Fields.{bit, name, narrow, wideFlag, descriptor, Optional, absent, present, optionalOn}
-use Rattle.protocol.specs.Loading.{stored, Mem, put, Loaded, loaded, failed, load, toldRow, LoadsNodes, sides, laySides}
+use Rattle.protocol.specs.Fields.{bit, name, wideFlag, descriptor, Optional, present, optionalOn}
+use Rattle.protocol.specs.Loading.{stored, Mem, put, loaded, load, toldRow, LoadsNodes, sides, laySides}
 use Rattle.protocol.specs.Pieces.{Piece, cells, words, tree, _⊕_}
-use Rattle.protocol.specs.Types.{Predicate, toPredicate, predicate, hasValue, layValue, layPredicate}
+use Rattle.protocol.specs.Types.{toPredicate, predicate, hasValue, layValue, layPredicate}
 use Rattle.protocol.proofs.PieceLaws.{tree-seven, put-join}
 use Rattle.protocol.proofs.RowStores.{stored-none}
 

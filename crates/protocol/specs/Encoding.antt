@@ -3,7 +3,6 @@ use mathlib.Core.Bool.{true}
 use mathlib.Core.Path.{_≡_, refl}
 use mathlib.Core.List.{List, [], _∷_}
 use Prim.Native.Nat.{ℕ}
-use Rattle.varint.specs.Formats.{printAll}
 use Rattle.varint.specs.Gathering.{Held, held, lacks, thenHeld, textHeld, nameHeld}
 use Rattle.varint.specs.Leb128.{putBy, putU64}
 use Rattle.varint.specs.Outs.{Sent, wrote, send}
@@ -12,14 +11,14 @@ use Rattle.varint.specs.Utf8.{utf8, scan, lead}
 use Rattle.varint.specs.declared.Written.the-variants.{Wrote, Refused}
 use Rattle.varint.specs.declared.error.Fault.the-variants.{Number}
 use Rattle.varint.specs.declared.error.Refusal.the-variants.{BadMessage}
-use Rattle.protocol.specs.RowsHeld.{heldTimes, allGood}
+use Rattle.protocol.specs.RowsHeld.{allGood}
 use Rattle.protocol.specs.Startup.{heldStartup}
 use Rattle.protocol.specs.Error.{heldError}
 use Rattle.protocol.specs.Ids.{heldIds}
 use Rattle.protocol.specs.Types.{heldTypes}
 use Rattle.protocol.specs.Control.{heldControl}
 use Rattle.protocol.specs.Reply.{heldReply}
-use Rattle.protocol.specs.Profile.{heldStep, heldProfile}
+use Rattle.protocol.specs.Profile.{heldProfile}
 use Rattle.protocol.specs.Page.{rawHeld, heldPage}
 use Rattle.protocol.specs.Fetch.{heldFetch}
 use Rattle.protocol.specs.Said.{Said, saidStartup, saidReady, saidError, saidComplete, saidIds, saidTypes, saidControl, saidReply, saidProfile, saidPage, saidFetch, saidListing, opaque, printSaid}

@@ -7,7 +7,7 @@ use lib.Dec.{ltb, leb, eqb}
 use lib.ListN.{length, drop, getD}
 use Rattle.varint.specs.Choice.{pick}
 use Rattle.varint.specs.Fixed.{putLe}
-use Rattle.varint.specs.Formats.{Got, got, bad, then, Format, gotNumber, gotText, printText, varint, fixed, named, readTimes, printAll}
+use Rattle.varint.specs.Formats.{Got, got, bad, then, Format, gotText, printText, varint, fixed, named, readTimes, printAll}
 use Rattle.varint.specs.Leb128.{readFrom, getU64, putU64}
 use Rattle.varint.specs.Stores.{part}
 use Rattle.varint.specs.Texts.{skimText, getText}

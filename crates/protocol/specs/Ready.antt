@@ -1,5 +1,4 @@
 -- 2 ready: "version, fingerprint, predicates".
-use mathlib.Core.Bool.{Bool}
 use mathlib.Core.List.{List}
 use Prim.Native.Nat.{ℕ}
 use Rattle.varint.specs.Formats.{Got, Format, varint, _⊗_, named}

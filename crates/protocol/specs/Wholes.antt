@@ -5,7 +5,7 @@ use Prim.Native.Nat.{ℕ, _-_}
 use lib.Dec.{ltb}
 use lib.ListN.{length}
 use Rattle.varint.specs.Choice.{pick}
-use Rattle.varint.specs.Formats.{Got, got, bad, then, Format, varint}
+use Rattle.varint.specs.Formats.{Got, got, bad, then, varint}
 use Rattle.varint.specs.Leb128.{readFrom, getU64}
 use Rattle.varint.specs.declared.error.Mismatch.the-variants as M
 use Rattle.varint.specs.declared.error.Refusal.the-variants.{TrailingBytes, TypeMismatch}

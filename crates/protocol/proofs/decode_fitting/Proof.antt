@@ -1,15 +1,8 @@
-use mathlib.Core.Path.{_≡_, refl, sym, _∙_, ap}
 use native.Mathlib.Omega.{arith}
 use Rattle.protocol.proofs.DecodeLaws.{decode-refused, decode-short-text, decode-short-rows, decode-short-nodes, decode-done}
 use borrow.Author.Needs.{needs}
 use Rattle.protocol.proofs.decode_fitting.Statement.{statement}
 use Rattle.protocol.proofs.decode_fitting.Tie as tie
-use Rattle.protocol.proofs.decode_fitting.Reads as reads
-use Rattle.protocol.proofs.decode_fitting.Lts as lts
-use Rattle.protocol.proofs.read.read_message.Reads as read-message-reads
-use Rattle.protocol.proofs.too_small.Reads as too-small-reads
-use Rattle.varint.proofs.store.clear_bytes.Reads as clear-bytes-reads
-use Rattle.varint.proofs.store.clear_numbers.Reads as clear-numbers-reads
 
 slice-aggregate-read-message : tie.Need-slice-aggregate-read-message
 slice-aggregate-read-message c = search needs

@@ -1,15 +1,7 @@
-use mathlib.Core.Path.{_≡_, refl, sym, _∙_, ap}
-use native.Mathlib.Omega.{arith}
 use Rattle.protocol.proofs.DecodeLaws.{decode-opaque-short, decode-opaque}
 use borrow.Author.Needs.{needs}
 use Rattle.protocol.proofs.decode_opaque.Statement.{statement}
 use Rattle.protocol.proofs.decode_opaque.Tie as tie
-use Rattle.protocol.proofs.decode_opaque.Reads as reads
-use Rattle.protocol.proofs.decode_opaque.Lts as lts
-use Rattle.protocol.proofs.too_small.Reads as too-small-reads
-use Rattle.varint.proofs.store.clear_bytes.Reads as clear-bytes-reads
-use Rattle.varint.proofs.store.clear_numbers.Reads as clear-numbers-reads
-use Rattle.varint.proofs.store.copy_bytes.Reads as copy-bytes-reads
 
 too-small-requires : tie.Need-too-small-requires
 too-small-requires c κs = search needs

@@ -1,10 +1,7 @@
-use mathlib.Core.Path.{_≡_, refl, sym, _∙_, ap}
+use mathlib.Core.Path.{refl}
 use borrow.Author.Needs.{needs}
 use Rattle.protocol.proofs.fields.keep_text.Statement.{statement}
 use Rattle.protocol.proofs.fields.keep_text.Tie as tie
-use Rattle.protocol.proofs.fields.keep_text.Reads as reads
-use Rattle.protocol.proofs.fields.keep_text.Lts as lts
-use Rattle.varint.proofs.store.copy_bytes.Reads as copy-bytes-reads
 
 enum-known-found : tie.Need-enum-known-found
 enum-known-found c = search needs

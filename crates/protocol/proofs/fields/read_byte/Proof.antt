@@ -1,12 +1,7 @@
-use mathlib.Core.Path.{_≡_, refl, sym, _∙_, ap}
-use native.Mathlib.Omega.{arith}
-use borrow.Author.Tests.{lt-ltb, le-ltb, eq-eqb, ne-eqb}
-use Rattle.protocol.specs.FieldsRead.{gotByte, gotMode, gotCode, gotOp, gotFlag}
+use borrow.Author.Tests.{lt-ltb, le-ltb}
 use borrow.Author.Needs.{needs}
 use Rattle.protocol.proofs.fields.read_byte.Statement.{statement}
 use Rattle.protocol.proofs.fields.read_byte.Tie as tie
-use Rattle.protocol.proofs.fields.read_byte.Reads as reads
-use Rattle.protocol.proofs.fields.read_byte.Lts as lts
 
 shared-slice-read-t7 : tie.Need-shared-slice-read-t7
 shared-slice-read-t7 c = search needs

@@ -1,17 +1,10 @@
-use mathlib.Core.Path.{_≡_, refl, sym, _∙_, ap}
-use Prim.Native.Nat.{_≤_, _-_}
-use native.Mathlib.Omega.{arith}
-use borrow.Author.Tests.{lt-ltb, le-ltb, le-leb, lt-leb, eq-eqb, ne-eqb}
-use lib.ListN.{length}
-use Rattle.varint.proofs.FormatParts.{num-inside}
+use mathlib.Core.Path.{sym, _∙_, ap}
+use Prim.Native.Nat.{_-_}
+use borrow.Author.Tests.{eq-eqb, ne-eqb}
 use Rattle.protocol.specs.FieldsRead.{gotByte}
 use borrow.Author.Needs.{needs}
 use Rattle.protocol.proofs.fields.read_digest.Statement.{statement}
 use Rattle.protocol.proofs.fields.read_digest.Tie as tie
-use Rattle.protocol.proofs.fields.read_digest.Reads as reads
-use Rattle.protocol.proofs.fields.read_digest.Lts as lts
-use Rattle.protocol.proofs.fields.read_byte.Reads as read-byte-reads
-use Rattle.varint.proofs.get_u64.Reads as get-u64-reads
 
 read-byte-requires : tie.Need-read-byte-requires
 read-byte-requires c κs = search needs

@@ -1,13 +1,8 @@
-use mathlib.Core.Path.{_≡_, refl, sym, _∙_, ap}
-use native.Mathlib.Omega.{arith}
-use borrow.Author.Tests.{lt-ltb, le-ltb, eq-eqb, ne-eqb}
-use Rattle.protocol.specs.FieldsRead.{gotByte, gotMode, gotCode, gotOp, gotFlag}
+use mathlib.Core.Path.{sym, _∙_, ap}
+use Rattle.protocol.specs.FieldsRead.{gotByte}
 use borrow.Author.Needs.{needs}
 use Rattle.protocol.proofs.fields.read_flag.Statement.{statement}
 use Rattle.protocol.proofs.fields.read_flag.Tie as tie
-use Rattle.protocol.proofs.fields.read_flag.Reads as reads
-use Rattle.protocol.proofs.fields.read_flag.Lts as lts
-use Rattle.protocol.proofs.fields.read_byte.Reads as read-byte-reads
 
 read-byte-requires : tie.Need-read-byte-requires
 read-byte-requires c κs = search needs

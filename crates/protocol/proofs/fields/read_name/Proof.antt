@@ -1,15 +1,9 @@
 use mathlib.Core.Bool.{Bool}
-use mathlib.Core.Path.{_≡_, refl, sym, _∙_, ap}
 use Rattle.protocol.proofs.TextsRead.{checked, found}
 use Rattle.desc.specs.Reading.{nameBy}
 use borrow.Author.Needs.{needs}
 use Rattle.protocol.proofs.fields.read_name.Statement.{statement}
 use Rattle.protocol.proofs.fields.read_name.Tie as tie
-use Rattle.protocol.proofs.fields.read_name.Reads as reads
-use Rattle.protocol.proofs.fields.read_name.Lts as lts
-use Rattle.protocol.proofs.fields.keep_text.Reads as keep-text-reads
-use Rattle.varint.proofs.text.skim_str.Reads as skim-str-reads
-use Rattle.varint.proofs.text.take_name.Reads as take-name-reads
 
 take-name-requires : tie.Need-take-name-requires
 take-name-requires c κs = search needs

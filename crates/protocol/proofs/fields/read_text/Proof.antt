@@ -1,15 +1,9 @@
 use mathlib.Core.Bool.{Bool}
-use mathlib.Core.Path.{_≡_, refl, sym, _∙_, ap}
 use Rattle.protocol.proofs.TextsRead.{checked, found}
 use Rattle.protocol.specs.Fields.{textBy}
 use borrow.Author.Needs.{needs}
 use Rattle.protocol.proofs.fields.read_text.Statement.{statement}
 use Rattle.protocol.proofs.fields.read_text.Tie as tie
-use Rattle.protocol.proofs.fields.read_text.Reads as reads
-use Rattle.protocol.proofs.fields.read_text.Lts as lts
-use Rattle.protocol.proofs.fields.keep_text.Reads as keep-text-reads
-use Rattle.varint.proofs.text.get_str.Reads as get-str-reads
-use Rattle.varint.proofs.text.skim_str.Reads as skim-str-reads
 
 get-str-requires : tie.Need-get-str-requires
 get-str-requires c κs = search needs

@@ -1,13 +1,7 @@
-use mathlib.Core.Path.{_≡_, refl, sym, _∙_, ap}
-use native.Mathlib.Omega.{arith}
-use borrow.Author.Tests.{lt-ltb, le-ltb, eq-eqb, ne-eqb}
-use Rattle.protocol.specs.FieldsRead.{gotByte, gotMode, gotCode, gotOp, gotFlag}
+use mathlib.Core.Path.{sym, _∙_}
 use borrow.Author.Needs.{needs}
 use Rattle.protocol.proofs.fields.read_wide_flag.Statement.{statement}
 use Rattle.protocol.proofs.fields.read_wide_flag.Tie as tie
-use Rattle.protocol.proofs.fields.read_wide_flag.Reads as reads
-use Rattle.protocol.proofs.fields.read_wide_flag.Lts as lts
-use Rattle.varint.proofs.get_u64.Reads as get-u64-reads
 
 get-u64-requires : tie.Need-get-u64-requires
 get-u64-requires c κs = search needs

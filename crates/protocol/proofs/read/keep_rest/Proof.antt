@@ -1,16 +1,8 @@
-use mathlib.Core.Path.{_≡_, refl, sym, _∙_, ap}
-use Prim.Native.Nat.{_≤_, _-_}
-use native.Mathlib.Omega.{arith}
-use borrow.Author.Tests.{lt-ltb, le-ltb, le-leb, lt-leb, eq-eqb, ne-eqb}
-use lib.ListN.{length}
-use Rattle.varint.proofs.FormatParts.{num-inside}
+use Prim.Native.Nat.{_-_}
 use Rattle.protocol.proofs.RowStores.{part-rest}
 use borrow.Author.Needs.{needs}
 use Rattle.protocol.proofs.read.keep_rest.Statement.{statement}
 use Rattle.protocol.proofs.read.keep_rest.Tie as tie
-use Rattle.protocol.proofs.read.keep_rest.Reads as reads
-use Rattle.protocol.proofs.read.keep_rest.Lts as lts
-use Rattle.varint.proofs.store.copy_bytes.Reads as copy-bytes-reads
 
 returns : tie.Need-returns
 returns c = rw (c .if1 .taken)

@@ -1,12 +1,9 @@
-use mathlib.Core.Path.{_≡_, refl, sym, _∙_, ap}
-use Prim.Native.Nat.{_≤_, _-_}
-use native.Mathlib.Omega.{arith}
-use borrow.Author.Tests.{lt-ltb, le-ltb, le-leb, lt-leb, eq-eqb, ne-eqb}
-use lib.ListN.{length}
-use Rattle.varint.proofs.FormatParts.{num-inside}
+use mathlib.Core.Path.{refl, sym, _∙_, ap}
+use Prim.Native.Nat.{_-_}
+use borrow.Author.Tests.{lt-ltb}
 use Rattle.varint.specs.Stores.{part}
 use Rattle.protocol.specs.Loading.{laidAs}
-use Rattle.protocol.proofs.MessageReads.{text-refused, text-read, texts-read}
+use Rattle.protocol.proofs.MessageReads.{text-refused, texts-read}
 use Rattle.protocol.proofs.TextsRead.{left-of, name-at, text-at}
 use Rattle.protocol.specs.Control.{readControl, layControl}
 use Rattle.protocol.specs.FieldsRead.{gotOp, gotFlag}
@@ -16,14 +13,6 @@ use Rattle.protocol.proofs.MessageFields.{control-read}
 use borrow.Author.Needs.{needs}
 use Rattle.protocol.proofs.read.read_control.Statement.{statement}
 use Rattle.protocol.proofs.read.read_control.Tie as tie
-use Rattle.protocol.proofs.read.read_control.Reads as reads
-use Rattle.protocol.proofs.read.read_control.Lts as lts
-use Rattle.protocol.proofs.fields.read_flag.Reads as read-flag-reads
-use Rattle.protocol.proofs.fields.read_name.Reads as read-name-reads
-use Rattle.protocol.proofs.fields.read_op.Reads as read-op-reads
-use Rattle.protocol.proofs.fields.read_text.Reads as read-text-reads
-use Rattle.protocol.proofs.read.left_over.Reads as left-over-reads
-use Rattle.protocol.proofs.read.worded.Reads as worded-reads
 
 read-op-requires : tie.Need-read-op-requires
 read-op-requires c κs = search needs

@@ -1,26 +1,13 @@
-use mathlib.Core.Path.{_≡_, refl, sym, _∙_, ap}
-use Prim.Native.Nat.{_≤_, _-_}
-use native.Mathlib.Omega.{arith}
-use borrow.Author.Tests.{lt-ltb, le-ltb, le-leb, lt-leb, eq-eqb, ne-eqb}
-use lib.ListN.{length}
-use Rattle.varint.proofs.FormatParts.{num-inside}
-use Rattle.protocol.specs.Reply.{readReply, layReply}
+use mathlib.Core.Path.{sym, _∙_, ap}
+use Prim.Native.Nat.{_-_}
+use Rattle.protocol.specs.Reply.{readReply}
 use Rattle.protocol.specs.FieldsRead.{gotOp}
-use Rattle.protocol.specs.Loading.{laidAs, layFinished}
-use Rattle.protocol.specs.Wholes.{ended}
-use Rattle.protocol.specs.Reply.{finish}
 use Rattle.protocol.proofs.FieldEnds.{op-inside}
 use Rattle.protocol.proofs.MessageFields.{reply-on, finished-same}
 use Rattle.protocol.proofs.MessageReads.{text-refused, bare-text, finished-bare, removed-bare}
 use borrow.Author.Needs.{needs}
 use Rattle.protocol.proofs.read.read_control_reply.Statement.{statement}
 use Rattle.protocol.proofs.read.read_control_reply.Tie as tie
-use Rattle.protocol.proofs.read.read_control_reply.Reads as reads
-use Rattle.protocol.proofs.read.read_control_reply.Lts as lts
-use Rattle.protocol.proofs.fields.read_op.Reads as read-op-reads
-use Rattle.protocol.proofs.read.read_created.Reads as read-created-reads
-use Rattle.protocol.proofs.read.read_finished.Reads as read-finished-reads
-use Rattle.protocol.proofs.read.read_removed.Reads as read-removed-reads
 
 read-op-requires : tie.Need-read-op-requires
 read-op-requires c κs = search needs

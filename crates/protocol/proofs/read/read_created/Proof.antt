@@ -1,23 +1,14 @@
-use mathlib.Core.Path.{_≡_, refl, sym, _∙_, ap}
-use Prim.Native.Nat.{_≤_, _-_}
-use native.Mathlib.Omega.{arith}
-use borrow.Author.Tests.{lt-ltb, le-ltb, le-leb, lt-leb, eq-eqb, ne-eqb}
-use lib.ListN.{length}
-use Rattle.varint.proofs.FormatParts.{num-inside}
-use Rattle.varint.specs.Stores.{part}
+use mathlib.Core.Path.{refl, sym, _∙_, ap}
+use Prim.Native.Nat.{_-_}
+use borrow.Author.Tests.{lt-ltb}
 use Rattle.protocol.specs.Loading.{laidAs}
-use Rattle.protocol.proofs.MessageReads.{text-refused, text-read, texts-read}
-use Rattle.protocol.proofs.TextsRead.{left-of, name-at, text-at}
+use Rattle.protocol.proofs.MessageReads.{text-refused, text-read}
+use Rattle.protocol.proofs.TextsRead.{left-of, name-at}
 use Rattle.protocol.specs.Reply.{layReply}
 use Rattle.protocol.proofs.MessageFields.{created-read}
 use borrow.Author.Needs.{needs}
 use Rattle.protocol.proofs.read.read_created.Statement.{statement}
 use Rattle.protocol.proofs.read.read_created.Tie as tie
-use Rattle.protocol.proofs.read.read_created.Reads as reads
-use Rattle.protocol.proofs.read.read_created.Lts as lts
-use Rattle.protocol.proofs.fields.read_name.Reads as read-name-reads
-use Rattle.protocol.proofs.read.left_over.Reads as left-over-reads
-use Rattle.protocol.proofs.read.worded.Reads as worded-reads
 
 read-name-requires : tie.Need-read-name-requires
 read-name-requires c κs = search needs

@@ -1,24 +1,14 @@
-use mathlib.Core.Path.{_≡_, refl, sym, _∙_, ap}
-use Prim.Native.Nat.{_≤_, _-_}
-use native.Mathlib.Omega.{arith}
-use borrow.Author.Tests.{lt-ltb, le-ltb, le-leb, lt-leb, eq-eqb, ne-eqb}
-use lib.ListN.{length}
-use Rattle.varint.proofs.FormatParts.{num-inside}
-use Rattle.varint.specs.Stores.{part}
+use mathlib.Core.Path.{refl, sym, _∙_, ap}
+use Prim.Native.Nat.{_-_}
 use Rattle.protocol.specs.Loading.{laidAs}
-use Rattle.protocol.proofs.MessageReads.{text-refused, text-read, texts-read}
-use Rattle.protocol.proofs.TextsRead.{left-of, name-at, text-at}
+use Rattle.protocol.proofs.MessageReads.{text-refused, text-read}
+use Rattle.protocol.proofs.TextsRead.{left-of, text-at}
 use Rattle.protocol.specs.Error.{readError, layError}
 use Rattle.protocol.specs.FieldsRead.{gotCode}
 use Rattle.protocol.proofs.MessageFields.{error-read}
 use borrow.Author.Needs.{needs}
 use Rattle.protocol.proofs.read.read_error.Statement.{statement}
 use Rattle.protocol.proofs.read.read_error.Tie as tie
-use Rattle.protocol.proofs.read.read_error.Reads as reads
-use Rattle.protocol.proofs.read.read_error.Lts as lts
-use Rattle.protocol.proofs.fields.read_code.Reads as read-code-reads
-use Rattle.protocol.proofs.fields.read_text.Reads as read-text-reads
-use Rattle.protocol.proofs.read.worded.Reads as worded-reads
 
 read-code-requires : tie.Need-read-code-requires
 read-code-requires c κs = search needs

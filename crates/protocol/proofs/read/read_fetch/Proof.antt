@@ -1,8 +1,7 @@
-use mathlib.Core.Path.{_≡_, refl, sym, _∙_, ap}
-use Prim.Native.Nat.{_≤_, _-_}
+use mathlib.Core.Path.{refl, sym, _∙_, ap}
+use Prim.Native.Nat.{_-_}
 use native.Mathlib.Omega.{arith}
-use borrow.Author.Tests.{lt-ltb, le-ltb, le-leb, lt-leb, eq-eqb, ne-eqb}
-use lib.ListN.{length}
+use borrow.Author.Tests.{lt-ltb, le-ltb}
 use Rattle.varint.proofs.FormatParts.{num-inside}
 use Rattle.protocol.specs.Loading.{laidAs, Within}
 use Rattle.protocol.proofs.RowMessages.{reads-refused, rows-read}
@@ -13,13 +12,6 @@ use Rattle.protocol.proofs.MessageFields.{fetch-read}
 use borrow.Author.Needs.{needs}
 use Rattle.protocol.proofs.read.read_fetch.Statement.{statement}
 use Rattle.protocol.proofs.read.read_fetch.Tie as tie
-use Rattle.protocol.proofs.read.read_fetch.Reads as reads
-use Rattle.protocol.proofs.read.read_fetch.Lts as lts
-use Rattle.protocol.proofs.fields.read_digest.Reads as read-digest-reads
-use Rattle.protocol.proofs.read.left_over.Reads as left-over-reads
-use Rattle.protocol.proofs.read.rowed.Reads as rowed-reads
-use Rattle.protocol.proofs.rows.read_rows.Reads as read-rows-reads
-use Rattle.varint.proofs.get_u64.Reads as get-u64-reads
 
 read-digest-requires : tie.Need-read-digest-requires
 read-digest-requires c κs = search needs

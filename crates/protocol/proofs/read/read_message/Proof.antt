@@ -1,5 +1,4 @@
-use mathlib.Core.Path.{_≡_, refl, sym, _∙_, ap}
-use native.Mathlib.Omega.{arith}
+use mathlib.Core.Path.{refl}
 use Rattle.protocol.specs.Said.{saidStartup, saidReady, saidError, saidComplete, saidIds, saidTypes, saidControl, saidReply, saidProfile, saidPage, saidFetch, saidListing, readEntry, lay}
 use Rattle.protocol.specs.Startup.{readStartup, layStartup}
 use Rattle.protocol.specs.Ready.{readReady, layReady}
@@ -14,24 +13,9 @@ use Rattle.protocol.specs.Page.{readPage, layPage}
 use Rattle.protocol.specs.Fetch.{readFetch, layFetch}
 use Rattle.protocol.specs.Listing.{readListing, layListing}
 use Rattle.protocol.proofs.MessageReads.{bare-text, said-laid, laid-bare, past, twelve}
-use borrow.Author.Tests.{ne-eqb}
 use borrow.Author.Needs.{needs}
 use Rattle.protocol.proofs.read.read_message.Statement.{statement}
 use Rattle.protocol.proofs.read.read_message.Tie as tie
-use Rattle.protocol.proofs.read.read_message.Reads as reads
-use Rattle.protocol.proofs.read.read_message.Lts as lts
-use Rattle.protocol.proofs.read.read_complete.Reads as read-complete-reads
-use Rattle.protocol.proofs.read.read_control.Reads as read-control-reads
-use Rattle.protocol.proofs.read.read_control_reply.Reads as read-control-reply-reads
-use Rattle.protocol.proofs.read.read_error.Reads as read-error-reads
-use Rattle.protocol.proofs.read.read_fetch.Reads as read-fetch-reads
-use Rattle.protocol.proofs.read.read_ids.Reads as read-ids-reads
-use Rattle.protocol.proofs.read.read_listing_digest.Reads as read-listing-digest-reads
-use Rattle.protocol.proofs.read.read_page.Reads as read-page-reads
-use Rattle.protocol.proofs.read.read_profile.Reads as read-profile-reads
-use Rattle.protocol.proofs.read.read_ready.Reads as read-ready-reads
-use Rattle.protocol.proofs.read.read_startup.Reads as read-startup-reads
-use Rattle.protocol.proofs.read.read_types.Reads as read-types-reads
 
 read-startup-requires : tie.Need-read-startup-requires
 read-startup-requires c κs = search needs

@@ -1,13 +1,9 @@
-use mathlib.Core.Path.{_≡_, refl, sym, _∙_, ap}
-use Prim.Native.Nat.{_≤_, _-_, _+_}
+use mathlib.Core.Path.{sym, _∙_, ap}
+use Prim.Native.Nat.{_-_, _+_}
 use native.Mathlib.Omega.{arith}
-use borrow.Author.Tests.{lt-ltb, le-ltb, le-leb, lt-leb, eq-eqb, ne-eqb}
-use lib.ListN.{length}
-use Rattle.varint.proofs.FormatParts.{num-inside}
-use Rattle.varint.specs.Stores.{part}
+use borrow.Author.Tests.{lt-ltb}
 use Rattle.protocol.specs.Loading.{laidAs}
-use Rattle.protocol.proofs.MessageReads.{text-refused, text-read, texts-read}
-use Rattle.protocol.proofs.TextsRead.{left-of, name-at, text-at}
+use Rattle.protocol.proofs.MessageReads.{text-refused, text-read}
 use Rattle.protocol.specs.Page.{readPage, layPage}
 use lib.ListN.{length-drop}
 use Rattle.protocol.specs.Pieces.{words}
@@ -18,13 +14,6 @@ use Rattle.protocol.proofs.RowStores.{part-and-rest}
 use borrow.Author.Needs.{needs}
 use Rattle.protocol.proofs.read.read_page.Statement.{statement}
 use Rattle.protocol.proofs.read.read_page.Tie as tie
-use Rattle.protocol.proofs.read.read_page.Reads as reads
-use Rattle.protocol.proofs.read.read_page.Lts as lts
-use Rattle.protocol.proofs.read.keep_rest.Reads as keep-rest-reads
-use Rattle.protocol.proofs.read.rest_good.Reads as rest-good-reads
-use Rattle.protocol.proofs.read.worded.Reads as worded-reads
-use Rattle.varint.proofs.fixed.get_u32_le.Reads as get-u32-le-reads
-use Rattle.varint.proofs.fixed.get_u64_le.Reads as get-u64-le-reads
 
 get-u64-le-requires : tie.Need-get-u64-le-requires
 get-u64-le-requires c κs = search needs

@@ -1,21 +1,13 @@
 use Rattle.protocol.specs.Loading.{laidAs}
 use Rattle.protocol.proofs.MessageFields.{ready-read}
-use mathlib.Core.Path.{_≡_, refl, sym, _∙_, ap}
-use Prim.Native.Nat.{_≤_, _-_}
-use native.Mathlib.Omega.{arith}
-use borrow.Author.Tests.{lt-ltb, le-ltb, le-leb, lt-leb, eq-eqb, ne-eqb}
-use lib.ListN.{length}
-use Rattle.varint.proofs.FormatParts.{num-inside}
+use mathlib.Core.Path.{sym, _∙_, ap}
+use Prim.Native.Nat.{_-_}
+use borrow.Author.Tests.{lt-ltb, le-ltb, lt-leb}
 use Rattle.protocol.specs.Ready.{readReady, layReady}
 use Rattle.protocol.proofs.MessageReads.{bare-refused, bare-read}
 use borrow.Author.Needs.{needs}
 use Rattle.protocol.proofs.read.read_ready.Statement.{statement}
 use Rattle.protocol.proofs.read.read_ready.Tie as tie
-use Rattle.protocol.proofs.read.read_ready.Reads as reads
-use Rattle.protocol.proofs.read.read_ready.Lts as lts
-use Rattle.protocol.proofs.read.left_over.Reads as left-over-reads
-use Rattle.protocol.proofs.read.plain.Reads as plain-reads
-use Rattle.varint.proofs.get_u64.Reads as get-u64-reads
 
 get-u64-requires : tie.Need-get-u64-requires
 get-u64-requires c κs = search needs

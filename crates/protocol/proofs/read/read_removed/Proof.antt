@@ -1,20 +1,13 @@
 use Rattle.protocol.specs.Loading.{laidAs}
 use Rattle.protocol.proofs.MessageFields.{removed-read}
-use mathlib.Core.Path.{_≡_, refl, sym, _∙_, ap}
-use Prim.Native.Nat.{_≤_, _-_}
-use native.Mathlib.Omega.{arith}
-use borrow.Author.Tests.{lt-ltb, le-ltb, le-leb, lt-leb, eq-eqb, ne-eqb}
-use lib.ListN.{length}
-use Rattle.varint.proofs.FormatParts.{num-inside}
+use mathlib.Core.Path.{ap}
+use Prim.Native.Nat.{_-_}
+use borrow.Author.Tests.{lt-ltb}
 use Rattle.protocol.proofs.MessageReads.{bare-refused, bare-read}
 use Rattle.protocol.specs.Reply.{layReply}
 use borrow.Author.Needs.{needs}
 use Rattle.protocol.proofs.read.read_removed.Statement.{statement}
 use Rattle.protocol.proofs.read.read_removed.Tie as tie
-use Rattle.protocol.proofs.read.read_removed.Reads as reads
-use Rattle.protocol.proofs.read.read_removed.Lts as lts
-use Rattle.protocol.proofs.read.left_over.Reads as left-over-reads
-use Rattle.protocol.proofs.read.plain.Reads as plain-reads
 
 left-over-requires : tie.Need-left-over-requires
 left-over-requires c κs = search needs

@@ -1,6 +1,6 @@
-use mathlib.Core.Path.{_≡_, refl, sym, _∙_, ap}
+use mathlib.Core.Path.{sym, _∙_, ap}
 use native.Mathlib.Omega.{arith}
-use borrow.Author.Tests.{lt-ltb, le-ltb, le-leb, lt-leb}
+use borrow.Author.Tests.{lt-ltb}
 use Rattle.varint.proofs.FormatParts.{num-inside}
 use Rattle.protocol.specs.FieldsRead.{gotMode}
 use Rattle.protocol.specs.Loading.{Within}
@@ -11,13 +11,6 @@ use Rattle.protocol.proofs.StartupReads.{session-refused, session-wide,
 use borrow.Author.Needs.{needs}
 use Rattle.protocol.proofs.read.read_session.Statement.{statement}
 use Rattle.protocol.proofs.read.read_session.Tie as tie
-use Rattle.protocol.proofs.read.read_session.Reads as reads
-use Rattle.protocol.proofs.read.read_session.Lts as lts
-use Rattle.protocol.proofs.fields.read_mode.Reads as read-mode-reads
-use Rattle.protocol.proofs.read.left_over.Reads as left-over-reads
-use Rattle.protocol.proofs.read.rowed.Reads as rowed-reads
-use Rattle.protocol.proofs.rows.read_rows.Reads as read-rows-reads
-use Rattle.varint.proofs.get_u64.Reads as get-u64-reads
 
 read-mode-requires : tie.Need-read-mode-requires
 read-mode-requires c κs = search needs

@@ -1,6 +1,5 @@
-use mathlib.Core.Path.{_≡_, refl, sym, _∙_, ap}
+use mathlib.Core.Path.{sym, _∙_}
 use native.Mathlib.Omega.{arith}
-use borrow.Author.Tests.{lt-ltb, le-ltb, le-leb, lt-leb}
 use Rattle.varint.proofs.FormatParts.{num-inside}
 use Rattle.protocol.specs.Startup.{readStartup}
 use Rattle.protocol.proofs.RowMessages.{reads-refused}
@@ -9,11 +8,6 @@ use Rattle.protocol.proofs.TextsRead.{left-of, name-at}
 use borrow.Author.Needs.{needs}
 use Rattle.protocol.proofs.read.read_startup.Statement.{statement}
 use Rattle.protocol.proofs.read.read_startup.Tie as tie
-use Rattle.protocol.proofs.read.read_startup.Reads as reads
-use Rattle.protocol.proofs.read.read_startup.Lts as lts
-use Rattle.protocol.proofs.fields.read_name.Reads as read-name-reads
-use Rattle.protocol.proofs.read.read_session.Reads as read-session-reads
-use Rattle.varint.proofs.get_u64.Reads as get-u64-reads
 
 get-u64-requires : tie.Need-get-u64-requires
 get-u64-requires c κs = search needs

@@ -1,8 +1,6 @@
-use mathlib.Core.Path.{_≡_, refl, sym, _∙_, ap}
-use Prim.Native.Nat.{_≤_, _-_}
+use mathlib.Core.Path.{refl, sym, _∙_, ap}
+use Prim.Native.Nat.{_-_}
 use native.Mathlib.Omega.{arith}
-use borrow.Author.Tests.{lt-ltb, le-ltb, le-leb, lt-leb, eq-eqb, ne-eqb}
-use lib.ListN.{length}
 use Rattle.varint.proofs.FormatParts.{num-inside}
 use Rattle.protocol.specs.Loading.{laidAs, Within}
 use Rattle.protocol.proofs.RowMessages.{reads-refused, rows-read}
@@ -12,11 +10,6 @@ use Rattle.protocol.proofs.MessageFields.{types-read}
 use borrow.Author.Needs.{needs}
 use Rattle.protocol.proofs.read.read_types.Statement.{statement}
 use Rattle.protocol.proofs.read.read_types.Tie as tie
-use Rattle.protocol.proofs.read.read_types.Reads as reads
-use Rattle.protocol.proofs.read.read_types.Lts as lts
-use Rattle.protocol.proofs.read.rowed.Reads as rowed-reads
-use Rattle.protocol.proofs.rows.read_rows.Reads as read-rows-reads
-use Rattle.varint.proofs.get_u64.Reads as get-u64-reads
 
 get-u64-requires : tie.Need-get-u64-requires
 get-u64-requires c κs = search needs

@@ -1,18 +1,12 @@
-use mathlib.Core.Path.{_≡_, refl, sym, _∙_, ap}
-use Prim.Native.Nat.{_≤_, _-_}
+use mathlib.Core.Path.{_∙_, ap}
+use Prim.Native.Nat.{_-_}
 use native.Mathlib.Omega.{arith}
-use borrow.Author.Tests.{lt-ltb, le-ltb, le-leb, lt-leb, eq-eqb, ne-eqb}
-use lib.ListN.{length}
-use Rattle.varint.proofs.FormatParts.{num-inside}
 use Rattle.varint.proofs.Utf8Laws.{utf8At-in}
 use Rattle.varint.specs.Utf8.{utf8}
 use Rattle.protocol.proofs.RowStores.{part-rest}
 use borrow.Author.Needs.{needs}
 use Rattle.protocol.proofs.read.rest_good.Statement.{statement}
 use Rattle.protocol.proofs.read.rest_good.Tie as tie
-use Rattle.protocol.proofs.read.rest_good.Reads as reads
-use Rattle.protocol.proofs.read.rest_good.Lts as lts
-use Rattle.varint.proofs.utf8.is_utf8.Reads as is-utf8-reads
 
 sub-is-utf8 : tie.Need-sub-is-utf8
 sub-is-utf8 c = search needs

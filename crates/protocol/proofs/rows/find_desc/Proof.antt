@@ -1,12 +1,7 @@
-use mathlib.Core.Path.{_≡_, refl, sym, _∙_, ap}
 use Rattle.protocol.proofs.DescLoads.{desc-checked, desc-filled}
 use borrow.Author.Needs.{needs}
 use Rattle.protocol.proofs.rows.find_desc.Statement.{statement}
 use Rattle.protocol.proofs.rows.find_desc.Tie as tie
-use Rattle.protocol.proofs.rows.find_desc.Reads as reads
-use Rattle.protocol.proofs.rows.find_desc.Lts as lts
-use Rattle.desc.proofs.fill_desc.Reads as fill-desc-reads
-use Rattle.desc.proofs.measure_desc.Reads as measure-desc-reads
 
 measure-desc-requires : tie.Need-measure-desc-requires
 measure-desc-requires c κs = search needs

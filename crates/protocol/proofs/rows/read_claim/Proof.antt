@@ -1,4 +1,4 @@
-use mathlib.Core.Path.{_≡_, refl, sym, _∙_, ap}
+use mathlib.Core.Path.{refl, sym, _∙_}
 use native.Mathlib.Omega.{arith}
 use Rattle.protocol.proofs.RowLoads.{flat-refused, flat-read}
 use Rattle.protocol.proofs.RowReads.{claim-read}
@@ -6,11 +6,6 @@ use Rattle.protocol.proofs.TextsRead.{left-of, name-at}
 use borrow.Author.Needs.{needs}
 use Rattle.protocol.proofs.rows.read_claim.Statement.{statement}
 use Rattle.protocol.proofs.rows.read_claim.Tie as tie
-use Rattle.protocol.proofs.rows.read_claim.Reads as reads
-use Rattle.protocol.proofs.rows.read_claim.Lts as lts
-use Rattle.protocol.proofs.fields.read_name.Reads as read-name-reads
-use Rattle.protocol.proofs.rows.store_three.Reads as store-three-reads
-use Rattle.varint.proofs.get_u64.Reads as get-u64-reads
 
 read-name-requires : tie.Need-read-name-requires
 read-name-requires c κs = search needs

@@ -1,13 +1,10 @@
-use mathlib.Core.Path.{_≡_, refl, sym, _∙_, ap}
+use mathlib.Core.Path.{sym, _∙_}
 use native.Mathlib.Omega.{arith}
 use Rattle.desc.proofs.Bounds.{measured-bounds}
 use Rattle.protocol.proofs.DescLoads.{desc-refused, desc-read}
 use borrow.Author.Needs.{needs}
 use Rattle.protocol.proofs.rows.read_desc.Statement.{statement}
 use Rattle.protocol.proofs.rows.read_desc.Tie as tie
-use Rattle.protocol.proofs.rows.read_desc.Reads as reads
-use Rattle.protocol.proofs.rows.read_desc.Lts as lts
-use Rattle.protocol.proofs.rows.find_desc.Reads as find-desc-reads
 
 find-desc-requires : tie.Need-find-desc-requires
 find-desc-requires c κs = search needs

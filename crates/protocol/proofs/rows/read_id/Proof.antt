@@ -1,13 +1,9 @@
-use mathlib.Core.Path.{_≡_, refl, sym, _∙_, ap}
+use mathlib.Core.Path.{refl, sym, _∙_, ap}
 use Rattle.protocol.proofs.RowLoads.{cells-refused, cells-read}
 use Rattle.varint.specs.Formats.{gotNumber}
 use borrow.Author.Needs.{needs}
 use Rattle.protocol.proofs.rows.read_id.Statement.{statement}
 use Rattle.protocol.proofs.rows.read_id.Tie as tie
-use Rattle.protocol.proofs.rows.read_id.Reads as reads
-use Rattle.protocol.proofs.rows.read_id.Lts as lts
-use Rattle.protocol.proofs.rows.store_one.Reads as store-one-reads
-use Rattle.varint.proofs.get_u64.Reads as get-u64-reads
 
 get-u64-requires : tie.Need-get-u64-requires
 get-u64-requires c κs = search needs

@@ -1,16 +1,9 @@
-use mathlib.Core.Path.{_≡_, refl, sym, _∙_, ap}
-use native.Mathlib.Omega.{arith}
-use borrow.Author.Tests.{lt-ltb, le-ltb, le-leb, lt-leb}
+use mathlib.Core.Path.{refl, sym, _∙_}
 use Rattle.protocol.proofs.RowLoads.{cells-refused, cells-read}
 use Rattle.protocol.proofs.PairReads.{pair-wide, pair-bad-predicate, pair-bad-sequence, pair-read}
 use borrow.Author.Needs.{needs}
 use Rattle.protocol.proofs.rows.read_pair.Statement.{statement}
 use Rattle.protocol.proofs.rows.read_pair.Tie as tie
-use Rattle.protocol.proofs.rows.read_pair.Reads as reads
-use Rattle.protocol.proofs.rows.read_pair.Lts as lts
-use Rattle.protocol.proofs.rows.bad_fact.Reads as bad-fact-reads
-use Rattle.protocol.proofs.rows.store_one.Reads as store-one-reads
-use Rattle.varint.proofs.get_u64.Reads as get-u64-reads
 
 get-u64-requires : tie.Need-get-u64-requires
 get-u64-requires c κs = search needs

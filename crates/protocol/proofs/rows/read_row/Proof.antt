@@ -1,5 +1,3 @@
-use mathlib.Core.Path.{_≡_, refl, sym, _∙_, ap}
-use native.Mathlib.Omega.{arith}
 use Rattle.varint.specs.Formats.{varint}
 use Rattle.protocol.specs.Loading.{loadRow}
 use Rattle.protocol.specs.Fetch.{pair}
@@ -10,14 +8,6 @@ use Rattle.protocol.proofs.RowLoads.{flat-row}
 use borrow.Author.Needs.{needs}
 use Rattle.protocol.proofs.rows.read_row.Statement.{statement}
 use Rattle.protocol.proofs.rows.read_row.Tie as tie
-use Rattle.protocol.proofs.rows.read_row.Reads as reads
-use Rattle.protocol.proofs.rows.read_row.Lts as lts
-use Rattle.protocol.proofs.rows.read_claim.Reads as read-claim-reads
-use Rattle.protocol.proofs.rows.read_id.Reads as read-id-reads
-use Rattle.protocol.proofs.rows.read_pair.Reads as read-pair-reads
-use Rattle.protocol.proofs.rows.read_step.Reads as read-step-reads
-use Rattle.protocol.proofs.rows.read_type.Reads as read-type-reads
-use Rattle.protocol.proofs.rows.with_nodes.Reads as with-nodes-reads
 
 enum-told : tie.Need-enum-told
 enum-told c = search needs

@@ -1,17 +1,9 @@
-use mathlib.Core.Path.{_≡_, refl, sym, _∙_, ap}
-use Prim.Native.Nat.{_+_}
 use borrow.Author.Needs.{needs}
 use native.Mathlib.Omega.{arith}
-use Rattle.desc.specs.declared.Walked.{Walked}
-use Rattle.protocol.specs.Rows.{widthOf}
 use Rattle.protocol.specs.Loading.{toldRow}
 use Rattle.protocol.proofs.RowsLoop.{Going, going-start, going-done, going-failed, going-step, took-one}
 use Rattle.protocol.proofs.rows.read_rows.Statement.{statement}
 use Rattle.protocol.proofs.rows.read_rows.Tie as tie
-use Rattle.protocol.proofs.rows.read_rows.Reads as reads
-use Rattle.protocol.proofs.rows.read_rows.Lts as lts
-use Rattle.protocol.proofs.message.RowKind.width.Reads as width-reads
-use Rattle.protocol.proofs.rows.read_row.Reads as read-row-reads
 
 abbrev Inv-loop : tie.InvT-loop
 Inv-loop kind count s at check limit text₀ t rows₀ nodes₀ width p₀ q₀ r₀ n₀ left₀ text rows nodes p q r n left = Going kind count s at check limit text₀ t rows₀ nodes₀ width text rows nodes p q r n left

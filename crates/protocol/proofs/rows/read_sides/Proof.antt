@@ -1,21 +1,13 @@
-use mathlib.Core.Path.{_≡_, refl, sym, _∙_, ap}
+use mathlib.Core.Path.{sym, _∙_, ap}
 use native.Mathlib.Omega.{arith}
 use Rattle.protocol.specs.FieldsRead.{gotFlag}
 use Rattle.protocol.specs.Pieces.{tree}
 use Rattle.protocol.specs.Loading.{load, toldRow, Within}
-use Rattle.desc.specs.Reading.{desc}
 use Rattle.protocol.proofs.FieldEnds.{wide-flag-inside}
 use Rattle.protocol.proofs.TypeLoads.{nodes-went, nodes-refused, sides-read}
 use borrow.Author.Needs.{needs}
 use Rattle.protocol.proofs.rows.read_sides.Statement.{statement}
 use Rattle.protocol.proofs.rows.read_sides.Tie as tie
-use Rattle.protocol.proofs.rows.read_sides.Reads as reads
-use Rattle.protocol.proofs.rows.read_sides.Lts as lts
-use Rattle.protocol.proofs.fields.read_wide_flag.Reads as read-wide-flag-reads
-use Rattle.protocol.proofs.rows.flag_number.Reads as flag-number-reads
-use Rattle.protocol.proofs.rows.read_desc.Reads as read-desc-reads
-use Rattle.protocol.proofs.rows.read_value.Reads as read-value-reads
-use Rattle.protocol.proofs.rows.store_three.Reads as store-three-reads
 
 read-wide-flag-requires : tie.Need-read-wide-flag-requires
 read-wide-flag-requires c κs = search needs

@@ -1,4 +1,4 @@
-use mathlib.Core.Path.{_≡_, refl, sym, _∙_, ap}
+use mathlib.Core.Path.{refl, sym, _∙_, ap}
 use native.Mathlib.Omega.{arith}
 use Rattle.protocol.specs.FieldsRead.{gotFlag}
 use Rattle.protocol.proofs.RowLoads.{flat-refused, flat-read}
@@ -7,12 +7,6 @@ use Rattle.protocol.proofs.TextsRead.{left-of, name-at}
 use borrow.Author.Needs.{needs}
 use Rattle.protocol.proofs.rows.read_step.Statement.{statement}
 use Rattle.protocol.proofs.rows.read_step.Tie as tie
-use Rattle.protocol.proofs.rows.read_step.Reads as reads
-use Rattle.protocol.proofs.rows.read_step.Lts as lts
-use Rattle.protocol.proofs.fields.read_flag.Reads as read-flag-reads
-use Rattle.protocol.proofs.fields.read_name.Reads as read-name-reads
-use Rattle.protocol.proofs.rows.store_step.Reads as store-step-reads
-use Rattle.varint.proofs.get_u64.Reads as get-u64-reads
 
 read-name-requires : tie.Need-read-name-requires
 read-name-requires c κs = search needs

@@ -1,4 +1,4 @@
-use mathlib.Core.Path.{_≡_, refl, sym, _∙_, ap}
+use mathlib.Core.Path.{sym, _∙_}
 use native.Mathlib.Omega.{arith}
 use borrow.Author.Tests.{le-leb, lt-leb}
 use Rattle.protocol.specs.Loading.{load, toldRow}
@@ -8,12 +8,6 @@ use Rattle.protocol.proofs.TypeLoads.{type-read}
 use borrow.Author.Needs.{needs}
 use Rattle.protocol.proofs.rows.read_type.Statement.{statement}
 use Rattle.protocol.proofs.rows.read_type.Tie as tie
-use Rattle.protocol.proofs.rows.read_type.Reads as reads
-use Rattle.protocol.proofs.rows.read_type.Lts as lts
-use Rattle.protocol.proofs.fields.read_name.Reads as read-name-reads
-use Rattle.protocol.proofs.rows.read_sides.Reads as read-sides-reads
-use Rattle.protocol.proofs.rows.store_three.Reads as store-three-reads
-use Rattle.varint.proofs.get_u64.Reads as get-u64-reads
 
 get-u64-requires : tie.Need-get-u64-requires
 get-u64-requires c κs = search needs

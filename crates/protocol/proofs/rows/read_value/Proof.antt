@@ -1,11 +1,7 @@
-use mathlib.Core.Path.{_≡_, refl, sym, _∙_, ap}
 use Rattle.protocol.proofs.DescLoads.{value-none, value-some}
 use borrow.Author.Needs.{needs}
 use Rattle.protocol.proofs.rows.read_value.Statement.{statement}
 use Rattle.protocol.proofs.rows.read_value.Tie as tie
-use Rattle.protocol.proofs.rows.read_value.Reads as reads
-use Rattle.protocol.proofs.rows.read_value.Lts as lts
-use Rattle.protocol.proofs.rows.read_desc.Reads as read-desc-reads
 
 read-desc-requires : tie.Need-read-desc-requires
 read-desc-requires c κs = search needs

@@ -1,11 +1,6 @@
-use mathlib.Core.Path.{_≡_, refl, sym, _∙_, ap}
-use lib.Seq.{sets}
 use borrow.Author.Needs.{needs}
 use Rattle.protocol.proofs.rows.store_one.Statement.{statement}
 use Rattle.protocol.proofs.rows.store_one.Tie as tie
-use Rattle.protocol.proofs.rows.store_one.Reads as reads
-use Rattle.protocol.proofs.rows.store_one.Lts as lts
-use Rattle.varint.proofs.store.store_number.Reads as store-number-reads
 
 returns : tie.Need-returns
 returns c = search needs

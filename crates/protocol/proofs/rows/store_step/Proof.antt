@@ -1,15 +1,9 @@
 use mathlib.Core.List.{[], _∷_}
 use Rattle.protocol.specs.Fields.{bit}
-use mathlib.Core.Path.{_≡_, refl, sym, _∙_, ap}
 use Rattle.protocol.proofs.RowStores.{stored-past, step-stored}
 use borrow.Author.Needs.{needs}
 use Rattle.protocol.proofs.rows.store_step.Statement.{statement}
 use Rattle.protocol.proofs.rows.store_step.Tie as tie
-use Rattle.protocol.proofs.rows.store_step.Reads as reads
-use Rattle.protocol.proofs.rows.store_step.Lts as lts
-use Rattle.protocol.proofs.rows.flag_number.Reads as flag-number-reads
-use Rattle.protocol.proofs.rows.store_one.Reads as store-one-reads
-use Rattle.protocol.proofs.rows.store_three.Reads as store-three-reads
 
 returns : tie.Need-returns
 returns c = stored-past (c .before .before .args .check) (c .before .before .args .rows .now) (c .before .before .args .r) (c .before .before .args .start ∷ c .before .before .args .len ∷ c .before .before .args .examined ∷ bit (c .before .before .args .full) ∷ []) (c .if1 .taken)

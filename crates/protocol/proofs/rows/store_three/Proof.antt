@@ -1,11 +1,7 @@
-use mathlib.Core.Path.{_≡_, refl, sym, _∙_, ap}
 use Rattle.protocol.proofs.RowStores.{three-stored, three-past}
 use borrow.Author.Needs.{needs}
 use Rattle.protocol.proofs.rows.store_three.Statement.{statement}
 use Rattle.protocol.proofs.rows.store_three.Tie as tie
-use Rattle.protocol.proofs.rows.store_three.Reads as reads
-use Rattle.protocol.proofs.rows.store_three.Lts as lts
-use Rattle.varint.proofs.store.store_number.Reads as store-number-reads
 
 returns : tie.Need-returns
 returns c = search needs

@@ -1,9 +1,6 @@
-use mathlib.Core.Path.{_≡_, refl, sym, _∙_, ap}
 use borrow.Author.Needs.{needs}
 use Rattle.protocol.proofs.rows.with_nodes.Statement.{statement}
 use Rattle.protocol.proofs.rows.with_nodes.Tie as tie
-use Rattle.protocol.proofs.rows.with_nodes.Reads as reads
-use Rattle.protocol.proofs.rows.with_nodes.Lts as lts
 
 enum-known-row : tie.Need-enum-known-row
 enum-known-row c = search needs
