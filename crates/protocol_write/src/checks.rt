@@ -26,6 +26,7 @@ use protocol::message::RowKind;
 use protocol::message::Span;
 use varint::error::Fault;
 use varint::error::Refusal;
+use varint::utf8::is_utf8;
 
 // The node after those of a type; or they are not laid out as nodes are.
 pub enum Laid {
@@ -63,13 +64,6 @@ fn check_span(text: &[u8], span: Span) -> Names
     check_name(text, span.start as usize, span.len as usize)
 }
 
-// A free text: what holds of names holds of it too.
-fn check_text(text: &[u8], span: Span) -> Names
-    ensures { λ r. ⌜ r ≡ verdict (textHeld (now (text .entry)) (span .start) (span .len)) ⌝ }
-{
-    check_span(text, span)
-}
-
 // Are the bytes there? They may be any.
 fn check_raw(text: &[u8], span: Span) -> Names
     ensures { λ r. ⌜ r ≡ verdict (rawHeld (now (text .entry)) (span .start) (span .len)) ⌝ }
@@ -82,6 +76,23 @@ fn check_raw(text: &[u8], span: Span) -> Names
         return Names::Refused(Refusal::BadMessage(Fault::Texts));
     }
     Names::Good
+}
+
+// Is the free text there, and is it UTF-8?
+fn check_text(text: &[u8], span: Span) -> Names
+    ensures { λ r. ⌜ r ≡ verdict (textHeld (now (text .entry)) (span .start) (span .len)) ⌝ }
+{
+    let start = span.start;
+    let len = span.len;
+    match check_raw(text, span) {
+        Names::Refused(e) => Names::Refused(e),
+        Names::Good => {
+            if is_utf8(text, start as usize, len as usize) {
+                return Names::Good;
+            }
+            Names::Refused(Refusal::BadString)
+        }
+    }
 }
 
 // The names of the descriptor whose root is node `n`.
