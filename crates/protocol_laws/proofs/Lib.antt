@@ -1,3 +1,4 @@
+pub mod CodeRounds
 pub mod DecodeEncoded
 pub mod EncodeDecoded
 pub mod FieldsBack
