@@ -1,9 +1,17 @@
 -- 3 error: "code, text; bytes after ignored".
-use mathlib.Core.Bool.{Bool}
-use mathlib.Core.List.{List}
+use Rattle.varint.specs.declared.error.Refusal.the-variants.{TypeMismatch}
+use Rattle.protocol.specs.declared.message.ErrorCode.the-variants.{UnknownDatabase}
+use Rattle.varint.specs.Stores.{part}
+use Rattle.varint.specs.Utf8.{utf8, scan, lead}
+use Rattle.varint.specs.Texts.{skimText, getText}
+use Rattle.varint.specs.Leb128.{readFrom, getU64}
+use mathlib.Core.Path.{_≡_, refl}
+use mathlib.Core.Bool.{Bool, true}
+use mathlib.Core.List.{List, [], _∷_}
 use Prim.Native.Nat.{ℕ}
-use Rattle.varint.specs.Formats.{Got, Format, _⊗_, named}
+use Rattle.varint.specs.Formats.{Got, Format, _⊗_, named, got, bad}
 use Rattle.varint.specs.Gathering.{Held, held, thenHeld, textHeld}
+use Rattle.varint.specs.declared.error.Mismatch.the-variants as M
 use Rattle.protocol.specs.Fields.{text, errorCode}
 use Rattle.protocol.specs.Laying.{Laid, spanOf}
 use Rattle.protocol.specs.Pieces.{words}
@@ -35,3 +43,12 @@ layError m = record { message = Msg.Error (m .code) (spanOf 0 (m .text)); piece 
 
 unfoldable pub heldError : ErrorCode → Span → List ℕ → Held Error
 heldError code span tx = thenHeld (textHeld tx (span .start) (span .len)) (λ x. held (record { code = code; text = x }))
+
+-- what follows the text is ignored
+example-read : readError true (2 ∷ 1 ∷ 0x61 ∷ 0xFF ∷ []) ≡ got (record { code = UnknownDatabase; text = 0x61 ∷ [] }) 3
+unfolding readError getU64 readFrom getText skimText utf8 scan lead part
+example-read = refl
+
+example-unknown : readError true (12 ∷ []) ≡ bad (TypeMismatch M.ErrorCode)
+unfolding readError
+example-unknown = refl

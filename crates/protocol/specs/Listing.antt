@@ -1,7 +1,9 @@
 -- 12 listing digest: "predicate (over 32 bits is 14), digest".
-use mathlib.Core.List.{List}
+use Rattle.varint.specs.Leb128.{readFrom, getU64}
+use mathlib.Core.Path.{_≡_, refl}
+use mathlib.Core.List.{List, [], _∷_}
 use Prim.Native.Nat.{ℕ}
-use Rattle.varint.specs.Formats.{Got, Format, varint, _⊗_, named}
+use Rattle.varint.specs.Formats.{Got, Format, varint, _⊗_, named, got, bad}
 use Rattle.varint.specs.declared.error.Refusal.the-variants.{BadListingPredicate}
 use Rattle.protocol.specs.Fields.{provided, narrow}
 use Rattle.protocol.specs.Laying.{Laid}
@@ -30,3 +32,12 @@ readListing s = ended s (listing .read s 0)
 
 unfoldable pub layListing : Listing → Laid
 layListing m = record { message = Msg.ListingDigest (m .predicate) (m .digest); piece = none }
+
+example-read : readListing (0xFF ∷ 0xFF ∷ 0xFF ∷ 0xFF ∷ 0x0F ∷ 0x00 ∷ []) ≡ got (record { predicate = 4294967295; digest = 0 }) 6
+unfolding readListing getU64 readFrom
+example-read = refl
+
+-- the predicate is refused before the digest is missed
+example-wide : readListing (0x80 ∷ 0x80 ∷ 0x80 ∷ 0x80 ∷ 0x10 ∷ []) ≡ bad (BadListingPredicate 4294967296)
+unfolding readListing getU64 readFrom
+example-wide = refl

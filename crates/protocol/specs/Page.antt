@@ -1,15 +1,18 @@
 -- 10 page: "limit in 8 bytes, cursor length in 4, little-endian, cursor, then query; short is 1".
-use mathlib.Core.Bool.{Bool}
-use mathlib.Core.List.{List}
+use Rattle.varint.specs.Utf8.{utf8, scan, lead}
+use Rattle.varint.specs.Fixed.{le, getLe}
+use mathlib.Core.Path.{_≡_, refl}
+use mathlib.Core.Bool.{Bool, true}
+use mathlib.Core.List.{List, [], _∷_}
 use Prim.Native.Nat.{ℕ, _+_}
 use lib.Dec.{ltb}
 use lib.ListN.{length}
 use Rattle.varint.specs.Choice.{pick}
-use Rattle.varint.specs.Formats.{Got, Format, fixed, _⊗_, named}
+use Rattle.varint.specs.Formats.{Got, Format, fixed, _⊗_, named, got, bad}
 use Rattle.varint.specs.Gathering.{Held, held, lacks, thenHeld, textHeld}
 use Rattle.varint.specs.Stores.{part}
 use Rattle.varint.specs.declared.error.Fault.the-variants.{Texts}
-use Rattle.varint.specs.declared.error.Refusal.the-variants.{BadMessage}
+use Rattle.varint.specs.declared.error.Refusal.the-variants.{BadMessage, UnexpectedEof, BadString}
 use Rattle.protocol.specs.Fields.{raw, toEnd}
 use Rattle.protocol.specs.Laying.{Laid, spanOf}
 use Rattle.protocol.specs.Pieces.{words, _⊕_}
@@ -52,3 +55,17 @@ unfoldable pub heldPage : ℕ → Span → Span → List ℕ → Held Page
 heldPage limit cursor query tx =
     thenHeld (rawHeld tx (cursor .start) (cursor .len))
     (λ c. thenHeld (textHeld tx (query .start) (query .len)) (λ x. held (record { limit = limit; cursor = c; query = x })))
+
+-- limit 5, a cursor that is no text, and the query "q"
+example-read : readPage true (5 ∷ 0 ∷ 0 ∷ 0 ∷ 0 ∷ 0 ∷ 0 ∷ 0 ∷ 1 ∷ 0 ∷ 0 ∷ 0 ∷ 0xFF ∷ 0x71 ∷ []) ≡ got (record { limit = 5; cursor = 0xFF ∷ []; query = 0x71 ∷ [] }) 14
+unfolding readPage getLe le part utf8 scan lead
+example-read = refl
+
+example-short : readPage true (5 ∷ 0 ∷ 0 ∷ 0 ∷ 0 ∷ 0 ∷ 0 ∷ 0 ∷ 2 ∷ 0 ∷ 0 ∷ 0 ∷ 0xFF ∷ []) ≡ bad UnexpectedEof
+unfolding readPage getLe le part
+example-short = refl
+
+-- a query must be one
+example-query : readPage true (5 ∷ 0 ∷ 0 ∷ 0 ∷ 0 ∷ 0 ∷ 0 ∷ 0 ∷ 0 ∷ 0 ∷ 0 ∷ 0 ∷ 0xFF ∷ []) ≡ bad BadString
+unfolding readPage getLe le part utf8 scan lead
+example-query = refl

@@ -1,10 +1,15 @@
 -- 9 profile: "count over the whole payload's length is 5; steps of label, examined, flag".
-use mathlib.Core.Bool.{Bool}
+use Rattle.varint.specs.Stores.{part}
+use Rattle.varint.specs.Utf8.{utf8, scan, lead}
+use Rattle.varint.specs.Texts.{skimText, getText, getName}
+use Rattle.varint.specs.Leb128.{readFrom, getU64}
+use mathlib.Core.Path.{_≡_, refl}
+use mathlib.Core.Bool.{Bool, true, false}
 use mathlib.Core.List.{List, [], _∷_}
 use Prim.Native.Nat.{ℕ, _+_}
 use lib.Dec.{leb}
 use lib.ListN.{length, getD}
-use Rattle.varint.specs.Formats.{Got, Format, varint, _⊗_, named}
+use Rattle.varint.specs.Formats.{Got, Format, varint, _⊗_, named, got, bad, readTimes}
 use Rattle.varint.specs.Gathering.{Held, held, thenHeld, nameHeld}
 use Rattle.varint.specs.declared.error.Mismatch.the-variants as M
 use Rattle.varint.specs.declared.error.Refusal.the-variants.{LengthOutOfRange}
@@ -61,3 +66,12 @@ heldStep tx rs r =
 unfoldable pub heldProfile : ℕ → List ℕ → List ℕ → Held (List Step)
 heldProfile count tx rs =
     enough stepWidth count rs (numbersGood (allGood (stepNumbers rs) stepWidth count 0) (heldTimes (heldStep tx rs) stepWidth count 0))
+
+example-read : readProfile true (1 ∷ 1 ∷ 0x61 ∷ 9 ∷ 0 ∷ []) ≡ got (record { label = 0x61 ∷ []; examined = 9; fullScan = false } ∷ []) 5
+unfolding readProfile readTimes getU64 readFrom getName getText skimText utf8 scan lead part
+example-read = refl
+
+-- three steps are declared, and the whole payload has two bytes
+example-count : readProfile true (3 ∷ 0 ∷ []) ≡ bad (LengthOutOfRange 3 2)
+unfolding readProfile getU64 readFrom
+example-count = refl

@@ -1,7 +1,9 @@
 -- 2 ready: "version, fingerprint, predicates".
-use mathlib.Core.List.{List}
+use Rattle.varint.specs.Leb128.{readFrom, getU64}
+use mathlib.Core.Path.{_≡_, refl}
+use mathlib.Core.List.{List, [], _∷_}
 use Prim.Native.Nat.{ℕ}
-use Rattle.varint.specs.Formats.{Got, Format, varint, _⊗_, named}
+use Rattle.varint.specs.Formats.{Got, Format, varint, _⊗_, named, got}
 use Rattle.protocol.specs.Laying.{Laid}
 use Rattle.protocol.specs.Pieces.{none}
 use Rattle.protocol.specs.Wholes.{ended, versioned}
@@ -30,3 +32,7 @@ readReady s = versioned (λ m. m .version) (ended s (ready .read s 0))
 
 unfoldable pub layReady : Ready → Laid
 layReady m = record { message = Msg.Ready (m .version) (m .fingerprint) (m .predicates); piece = none }
+
+example-read : readReady (4 ∷ 7 ∷ 9 ∷ []) ≡ got (record { version = 4; fingerprint = 7; predicates = 9 }) 3
+unfolding readReady getU64 readFrom
+example-read = refl

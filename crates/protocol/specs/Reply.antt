@@ -1,8 +1,14 @@
 -- 8 control reply: "A control reply is created, finished or removed, each with its own fields; finished has three varints and a flag."
+use Rattle.varint.specs.declared.error.Refusal.the-variants.{TrailingBytes}
+use Rattle.varint.specs.Stores.{part}
+use Rattle.varint.specs.Utf8.{utf8, scan, lead}
+use Rattle.varint.specs.Texts.{skimText, getText, getName}
+use Rattle.varint.specs.Leb128.{readFrom, getU64}
+use mathlib.Core.Path.{_≡_, refl}
 use mathlib.Core.Bool.{Bool, true}
-use mathlib.Core.List.{List, _++_}
+use mathlib.Core.List.{List, _++_, [], _∷_}
 use Prim.Native.Nat.{ℕ}
-use Rattle.varint.specs.Formats.{Got, got, then, Format, varint, _⊗_, named}
+use Rattle.varint.specs.Formats.{Got, got, then, Format, varint, _⊗_, named, bad}
 use Rattle.varint.specs.Gathering.{Held, held, thenHeld, nameHeld}
 use Rattle.varint.specs.declared.error.Mismatch.the-variants as M
 use Rattle.protocol.specs.Fields.{name, controlOp, flag}
@@ -67,3 +73,16 @@ heldReply (R.Created span) tx = thenHeld (nameHeld tx (span .start) (span .len))
 heldReply (R.Finished fingerprint facts bytes complete) tx =
     held (finished (record { fingerprint = fingerprint; facts = facts; bytes = bytes; alreadyComplete = complete }))
 heldReply R.Removed tx = held removed
+
+example-created : readReply true (1 ∷ 1 ∷ 0x61 ∷ []) ≡ got (created (0x61 ∷ [])) 3
+unfolding readReply getU64 readFrom getName getText skimText utf8 scan lead part
+example-created = refl
+
+-- a flag of 7 is yes
+example-finished : readReply true (2 ∷ 4 ∷ 5 ∷ 6 ∷ 7 ∷ []) ≡ got (finished (record { fingerprint = 4; facts = 5; bytes = 6; alreadyComplete = true })) 5
+unfolding readReply getU64 readFrom
+example-finished = refl
+
+example-removed : readReply true (3 ∷ 0 ∷ []) ≡ bad (TrailingBytes 1)
+unfolding readReply
+example-removed = refl

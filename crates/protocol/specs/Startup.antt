@@ -1,10 +1,16 @@
 -- 1 startup: "version, database, mode, fingerprint, count, claims (name, fingerprint)".
-use mathlib.Core.Bool.{Bool}
+use Rattle.protocol.specs.declared.message.Mode.the-variants.{ReadWrite}
+use Rattle.varint.specs.Stores.{part}
+use Rattle.varint.specs.Utf8.{utf8, scan, lead}
+use Rattle.varint.specs.Texts.{skimText, getText, getName}
+use Rattle.varint.specs.Leb128.{readFrom, getU64, putBy, putU64}
+use mathlib.Core.Path.{_≡_, refl}
+use mathlib.Core.Bool.{Bool, true}
 use mathlib.Core.List.{List, [], _∷_}
 use Prim.Native.Nat.{ℕ, _+_}
 use lib.ListN.{length, getD}
-use Rattle.varint.specs.Formats.{Got, Format, varint, _⊗_, named, counted}
-use Rattle.varint.specs.Gathering.{Held, held, thenHeld, nameHeld}
+use Rattle.varint.specs.Formats.{Got, Format, varint, _⊗_, named, counted, got, readTimes, printAll}
+use Rattle.varint.specs.Gathering.{Held, held, thenHeld, nameHeld, textHeld}
 use Rattle.protocol.specs.Fields.{name, mode}
 use Rattle.protocol.specs.Laying.{Laid, spanOf}
 use Rattle.protocol.specs.Pieces.{Piece, words, cells, _⊕_, many}
@@ -77,3 +83,24 @@ heldStartup version database mode fingerprint count tx rs =
     (thenHeld (nameHeld tx (database .start) (database .len))
     (λ d. thenHeld (heldTimes (heldClaim tx rs) claimWidth count 0)
     (λ l. held (record { version = version; database = d; mode = mode; fingerprint = fingerprint; claims = l }))))
+
+-- version 4, database "d" to read and write, fingerprint 7, and one claim: "a" has fingerprint 5
+abbrev sample : Startup
+sample = record { version = 4; database = 0x64 ∷ []; mode = ReadWrite; fingerprint = 7; claims = record { name = 0x61 ∷ []; fingerprint = 5 } ∷ [] }
+
+example-read : readStartup true (4 ∷ 1 ∷ 0x64 ∷ 1 ∷ 7 ∷ 1 ∷ 1 ∷ 0x61 ∷ 5 ∷ []) ≡ got sample 9
+unfolding readStartup readTimes getU64 readFrom getName getText skimText utf8 scan lead part
+example-read = refl
+
+example-printed : startup true .print sample ≡ 4 ∷ 1 ∷ 0x64 ∷ 1 ∷ 7 ∷ 1 ∷ 1 ∷ 0x61 ∷ 5 ∷ []
+unfolding printAll putU64 putBy
+example-printed = refl
+
+-- the claim's name stands behind the database's
+example-rows : layStartup sample .piece .rows 0 0 ≡ 1 ∷ 1 ∷ 5 ∷ []
+unfolding layStartup many
+example-rows = refl
+
+example-held : heldStartup 4 (record { start = 0; len = 1 }) ReadWrite 7 1 (0x64 ∷ 0x61 ∷ []) (1 ∷ 1 ∷ 5 ∷ []) ≡ held sample
+unfolding heldStartup heldTimes heldClaim nameHeld textHeld utf8 scan lead part
+example-held = refl

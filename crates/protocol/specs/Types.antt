@@ -1,18 +1,24 @@
 -- 6 types: "count, then id, name, virtual, key, has value, value; nonzero means yes; id over 32 bits is 11; bytes after ignored".
+use Rattle.desc.specs.Reading.{headAt, labelAt, children, desc}
+use Rattle.varint.specs.Stores.{part}
+use Rattle.varint.specs.Utf8.{utf8, scan, lead}
+use Rattle.varint.specs.Texts.{skimText, getText, getName}
+use Rattle.varint.specs.Leb128.{readFrom, getU64}
+use mathlib.Core.Path.{_≡_, refl}
 use mathlib.Core.Bool.{Bool, true, false, _&&_}
 use mathlib.Core.List.{List, [], _∷_}
 use Prim.Native.Nat.{ℕ, zero, suc, _+_}
 use lib.Dec.{leb, eqb}
 use lib.ListN.{length, getD}
 use Rattle.varint.specs.Choice.{pick}
-use Rattle.varint.specs.Formats.{Got, got, bad, Format, varint, _⊗_, named, counted}
-use Rattle.varint.specs.Gathering.{Held, held, lacks, thenHeld, nameHeld}
+use Rattle.varint.specs.Formats.{Got, got, bad, Format, varint, _⊗_, named, counted, readTimes}
+use Rattle.varint.specs.Gathering.{Held, held, lacks, thenHeld, nameHeld, textHeld}
 use Rattle.varint.specs.declared.error.Fault.the-variants.{Layout}
 use Rattle.varint.specs.declared.error.Refusal.the-variants.{UnknownPredicate, BadMessage}
 use Rattle.desc.specs.Encoding.{heldIn}
-use Rattle.desc.specs.Layout.{endAt}
-use Rattle.desc.specs.Table.{cell, table}
-use Rattle.desc.specs.Trees.{Tree}
+use Rattle.desc.specs.Layout.{endAt, texts, placed, rows}
+use Rattle.desc.specs.Table.{cell, table, rootName, discriminantFits, predicateFits, isBranch, leafFits, nodeFits, gather}
+use Rattle.desc.specs.Trees.{Tree, leaf, size}
 use Rattle.protocol.specs.Fields.{provided, narrow, name, wideFlag, bit, yes, descriptor, Optional, absent, present, optional}
 use Rattle.protocol.specs.Laying.{Laid}
 use Rattle.protocol.specs.Pieces.{Piece, none, words, cells, tree, _⊕_, many}
@@ -102,3 +108,20 @@ heldTypes limit count tx rs nd =
     (numbersGood (allGood (typeNumbers rs) typeWidth count 0)
     (thenHeld (typesLaid limit rs nd count 0 0)
     (λ _. heldTimes (heldPredicate limit tx rs nd) typeWidth count 0)))
+
+-- type 3 "p", not virtual: from an int to a string
+abbrev sample : Predicate
+sample = record { id = 3; name = 0x70 ∷ []; virtual = false; key = leaf 0 0; value = present (leaf 1 0) }
+
+example-read : readTypes true 64 (1 ∷ 3 ∷ 1 ∷ 0x70 ∷ 0 ∷ 0 ∷ 1 ∷ 1 ∷ 0xFF ∷ []) ≡ got (sample ∷ []) 8
+unfolding readTypes readTimes desc children headAt labelAt getU64 readFrom getName getText skimText utf8 scan lead part
+example-read = refl
+
+example-rows : layTypes (sample ∷ []) .piece .rows 0 0 ≡ 3 ∷ 0 ∷ 1 ∷ 0 ∷ 1 ∷ 0 ∷ []
+unfolding layTypes many
+example-rows = refl
+
+-- the value's node stands behind the key's
+example-nodes : layTypes (sample ∷ []) .piece .nodes 0 0 ≡ 0 ∷ 0 ∷ 0 ∷ 0 ∷ 0 ∷ 0 ∷ 1 ∷ 1 ∷ 0 ∷ 0 ∷ 0 ∷ 0 ∷ 0 ∷ 2 ∷ []
+unfolding layTypes many texts placed rows size
+example-nodes = refl
