@@ -1,0 +1,7 @@
+pub mod Frames
+pub mod Worlds
+pub mod Reading
+pub mod Offering
+pub mod Driving
+pub mod Runs
+pub mod Slots

@@ -1,0 +1,126 @@
+-- Opening a receiver, and offering it a piece: what both do for every receiver and all lent memory.
+use mathlib.Core.Bool.{Bool, true}
+use mathlib.Core.List.{List, _++_}
+use Prim.Native.Nat.{ℕ, _+_, _-_}
+use lib.Dec.{eqb, ltb, leb}
+use lib.ListN.{length, take, drop, replicate}
+use Rattle.varint.specs.Choice.{pick}
+use Rattle.varint.specs.Refusals.{codeOf}
+use Rattle.varint.specs.declared.error.Code.{Code}
+use Rattle.varint.specs.declared.error.Refusal.the-variants.{BadReceiver, BadKindTable}
+use Rattle.protocol.specs.Decoding.{Left}
+use Rattle.frame.specs.declared.receiver.Receiver.{Receiver}
+use Rattle.frame.specs.declared.receiver.Opening.{Opening}
+use Rattle.frame.specs.declared.receiver.Opening.the-variants as O
+use Rattle.frame.specs.declared.receiver.Outcome.{Outcome}
+use Rattle.frame.specs.declared.receiver.Outcome.the-variants.{More, Handed, Stopped, Refused}
+use Rattle.frame.specs.Frames.{headerOf}
+use Rattle.frame.specs.Worlds.{Limits, Setup, Lent, World, receiverOf, running, pad}
+use Rattle.frame.specs.Reading.{Verdict, refuse, gather, judge, decoded, lentBy}
+
+-- ---- opening
+
+pub record Opens : Type 0 where
+  pub opening : Opening
+  pub receiver : Receiver
+  pub hold : List ℕ
+
+-- "18 unless the kind table has 256 bytes; hold and host's receiver then stay unaltered." "Opening clears the hold."
+unfoldable pub opens : Receiver → (table hold : List ℕ) → Opens
+opens r table hold =
+    pick (eqb (length table) 256)
+    (record {
+      opening = O.Accepted;
+      receiver = receiverOf (record { table = table; room = length hold }) (replicate 9 0) 0 0 running;
+      hold = replicate (length hold) 0;
+    })
+    (record { opening = O.Refused (BadKindTable (length table)); receiver = r; hold = hold })
+
+-- ---- an offer
+
+-- what an offer answers, the bytes that it used, and everything after it
+pub record Offer : Type 0 where
+  pub outcome : Outcome
+  pub used : ℕ
+  pub world : World
+
+-- "Nothing is used or altered by these three."
+abbrev pub declined : Code → World → Offer
+declined e w = record { outcome = Refused e; used = 0; world = w }
+
+abbrev pub stopOf : Receiver → Code
+stopOf r = record { number = r .stop; a = r .«stop_a»; b = r .«stop_b» }
+
+abbrev pub setupOf : Receiver → Setup
+setupOf r = record { table = r .table; room = r .«hold_len» }
+
+-- the receiver with another header and other counts
+abbrev pub advanced : Receiver → (header : List ℕ) → (headerLen payloadLen : ℕ) → Receiver
+advanced r hd g n = receiverOf (setupOf r) hd g n (stopOf r)
+
+-- the header bytes and the payload bytes that are held: bytes past their counts count as absent
+abbrev pub headerHeld : Receiver → List ℕ
+headerHeld r = take (r .«header_len») (r .header)
+
+abbrev pub payloadHeld : World → List ℕ
+payloadHeld w = take (w .receiver .«payload_len») (w .hold)
+
+-- "at nine, a length over the maximum or the hold, or payload held not below that length"
+abbrev pub overfull : Verdict → (payloadLen : ℕ) → Bool
+overfull (refuse e) have = true
+overfull (gather n) have = leb n have
+
+-- "17 if the counts are impossible (over 9 header bytes; payload held before the ninth; ..)"
+unfoldable pub impossible : Limits → Receiver → Bool
+impossible l r =
+    pick (ltb 9 (r .«header_len»)) true
+    (pick (ltb (r .«header_len») 9) (ltb 0 (r .«payload_len»)) (overfull (judge l (r .«hold_len») (headerHeld r)) (r .«payload_len»)))
+
+-- The frame is whole: "header and hold are zero again".
+unfoldable pub handed : (w : World) → (hd : List ℕ) → (used : ℕ) → Left → Offer
+handed w hd u x = record {
+  outcome = Handed (headerOf hd) (x .answer);
+  used = u;
+  world = record { receiver = advanced (w .receiver) (replicate 9 0) 0 0; hold = replicate (length (w .hold)) 0; lent = lentBy x };
+}
+
+module _ (l : Limits) where
+  -- nine header bytes hd are there, u bytes of the piece went into them, q is left of it, and n bytes of payload are wanted
+  unfoldable pub loads : (w : World) → (hd : List ℕ) → (u : ℕ) → (q : List ℕ) → (n : ℕ) → Offer
+  loads w hd u q n =
+      let have : ℕ = w .receiver .«payload_len» in
+      let payload : List ℕ = payloadHeld w ++ take (n - have) q in
+      pick (ltb (length payload) n)
+      (record {
+        outcome = More;
+        used = u + length q;
+        world = record { receiver = advanced (w .receiver) hd 9 (length payload); hold = payload ++ drop (length payload) (w .hold); lent = w .lent };
+      })
+      (handed w hd (u + (n - have)) (decoded l (setupOf (w .receiver)) hd payload (w .lent)))
+
+  unfoldable pub settles : Verdict → (w : World) → (hd : List ℕ) → (u : ℕ) → (q : List ℕ) → Offer
+  settles (gather n) w hd u q = loads w hd u q n
+  settles (refuse e) w hd u q = record {
+    outcome = Stopped (codeOf e);
+    used = u;
+    world = record { receiver = receiverOf (setupOf (w .receiver)) hd 9 0 (codeOf e); hold = replicate (length (w .hold)) 0; lent = w .lent };
+  }
+
+  -- as the reading says: "A call reads to the first frame's end, a stop or the piece's end, and gives the bytes used (at a stop, through the ninth header byte)"
+  unfoldable pub takes : World → List ℕ → Offer
+  takes w p =
+      let r : Receiver = w .receiver in
+      let lacks : ℕ = 9 - r .«header_len» in
+      let hd : List ℕ = headerHeld r ++ take lacks p in
+      pick (ltb (length hd) 9)
+      (record { outcome = More; used = length p; world = record { receiver = advanced r (pad 9 hd) (length hd) 0; hold = w .hold; lent = w .lent } })
+      (settles (judge l (r .«hold_len») hd) w hd lacks (drop lacks p))
+
+  -- "17 if the hold's length isn't that of the opening; the stored refusal if stopped; 17 if the counts are impossible .. Then as the reading says."
+  unfoldable pub offering : World → List ℕ → Offer
+  offering w p =
+      pick (eqb (length (w .hold)) (w .receiver .«hold_len»))
+      (pick (eqb (w .receiver .stop) 0)
+      (pick (impossible l (w .receiver)) (declined (codeOf BadReceiver) w) (takes w p))
+      (declined (stopOf (w .receiver)) w))
+      (declined (codeOf BadReceiver) w)
