@@ -12,9 +12,11 @@ use Rattle.protocol.specs.Decoding.{Left}
 use Rattle.frame.specs.declared.receiver.Receiver.{Receiver}
 use Rattle.frame.specs.declared.receiver.Opening.{Opening}
 use Rattle.frame.specs.declared.receiver.Opening.the-variants as O
+use Rattle.frame.specs.declared.receiver.Offered.{Offered}
 use Rattle.frame.specs.declared.receiver.Outcome.{Outcome}
 use Rattle.frame.specs.declared.receiver.Outcome.the-variants.{More, Handed, Stopped, Refused}
-use Rattle.frame.specs.Frames.{headerOf}
+use Rattle.frame.specs.declared.FrameHeader.{FrameHeader}
+use Rattle.frame.specs.Frames.{kindOf, headerOf}
 use Rattle.frame.specs.Worlds.{Limits, Setup, Lent, World, receiverOf, running, pad}
 use Rattle.frame.specs.Reading.{Verdict, refuse, gather, judge, decoded, lentBy}
 
@@ -77,9 +79,9 @@ impossible l r =
     (pick (ltb (r .«header_len») 9) (ltb 0 (r .«payload_len»)) (overfull (judge l (r .«hold_len») (headerHeld r)) (r .«payload_len»)))
 
 -- The frame is whole: "header and hold are zero again".
-unfoldable pub handed : (w : World) → (hd : List ℕ) → (used : ℕ) → Left → Offer
-handed w hd u x = record {
-  outcome = Handed (headerOf hd) (x .answer);
+unfoldable pub handed : World → FrameHeader → (used : ℕ) → Left → Offer
+handed w h u x = record {
+  outcome = Handed h (x .answer);
   used = u;
   world = record { receiver = advanced (w .receiver) (replicate 9 0) 0 0; hold = replicate (length (w .hold)) 0; lent = lentBy x };
 }
@@ -96,7 +98,7 @@ module _ (l : Limits) where
         used = u + length q;
         world = record { receiver = advanced (w .receiver) hd 9 (length payload); hold = payload ++ drop (length payload) (w .hold); lent = w .lent };
       })
-      (handed w hd (u + (n - have)) (decoded l (setupOf (w .receiver)) hd payload (w .lent)))
+      (handed w (headerOf hd) (u + (n - have)) (decoded l (setupOf (w .receiver)) (kindOf hd) payload (w .lent)))
 
   unfoldable pub settles : Verdict → (w : World) → (hd : List ℕ) → (u : ℕ) → (q : List ℕ) → Offer
   settles (gather n) w hd u q = loads w hd u q n
@@ -124,3 +126,11 @@ module _ (l : Limits) where
       (pick (impossible l (w .receiver)) (declined (codeOf BadReceiver) w) (takes w p))
       (declined (stopOf (w .receiver)) w))
       (declined (codeOf BadReceiver) w)
+
+-- ---- the memory of a call, as the definitions have it
+
+abbrev pub worldOf : Receiver → (hold text rows nodes : List ℕ) → World
+worldOf r hold text rows nodes = record { receiver = r; hold = hold; lent = record { text = text; rows = rows; nodes = nodes } }
+
+abbrev pub offerOf : Offered → (hold text rows nodes : List ℕ) → Offer
+offerOf o hold text rows nodes = record { outcome = o .outcome; used = o .used; world = worldOf (o .receiver) hold text rows nodes }

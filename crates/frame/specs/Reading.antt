@@ -77,13 +77,13 @@ module _ (l : Limits) (c : Setup) where
   unfoldable pub ended : List ℕ → Refusal → Lent → World
   ended hd e b = record { receiver = receiverOf c hd 9 0 (codeOf e); hold = replicate (c .room) 0; lent = b }
 
-  -- the message under the header hd: "An entry 1 to 12 names a message; any other is opaque"
-  unfoldable pub decoded : (hd payload : List ℕ) → Lent → Left
-  decoded hd payload b = decodeMessage (l .payload) (l .depth) (getD (c .table) (kindOf hd) 0) payload (b .text) (b .rows) (b .nodes)
+  -- the message of a kind: "An entry 1 to 12 names a message; any other is opaque"
+  unfoldable pub decoded : (kind : ℕ) → List ℕ → Lent → Left
+  decoded kind payload b = decodeMessage (l .payload) (l .depth) (getD (c .table) kind 0) payload (b .text) (b .rows) (b .nodes)
 
   -- the frame of n payload bytes that s begins with
   unfoldable pub answered : ℕ → List ℕ → Lent → Left
-  answered n s b = decoded (take 9 s) (take n (drop 9 s)) b
+  answered n s b = decoded (kindOf (take 9 s)) (take n (drop 9 s)) b
 
   abbrev pub frameOf : ℕ → List ℕ → Lent → Event
   frameOf n s b = frame (headerOf (take 9 s)) (answered n s b .answer) (lentBy (answered n s b))
