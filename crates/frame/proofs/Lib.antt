@@ -1,0 +1,4 @@
+pub mod Firsts
+pub mod HeldLaws
+pub mod ListLaws
+pub mod OfferSteps
