@@ -1,4 +1,7 @@
+pub mod Cutting
 pub mod Firsts
 pub mod HeldLaws
 pub mod ListLaws
 pub mod OfferSteps
+pub mod ReadSteps
+pub mod Stops

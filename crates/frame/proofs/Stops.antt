@@ -1,0 +1,36 @@
+-- After a stop: each offer gives the stop's refusal again, uses nothing and alters nothing.
+use mathlib.Core.Path.{_≡_, refl}
+use mathlib.Core.Logic.{_≢_}
+use mathlib.Core.List.{List, [], _∷_, map}
+use Prim.Native.Nat.{ℕ}
+use native.Mathlib.Nat.{zero-add}
+use borrow.Author.Tests.{eq-eqb, ne-eqb}
+use lib.ListN.{length}
+use Rattle.frame.specs.Worlds.{Limits, World}
+use Rattle.frame.specs.Reading.{Run, done}
+use Rattle.frame.specs.Offering.{Offer, declined, stopOf, offering}
+use Rattle.frame.specs.Driving.{plus, later}
+
+pub plus-zero : (r : Run) → plus 0 r ≡ r
+unfolding plus
+plus-zero r = rw zero-add
+
+-- a list of pieces, each offered once
+unfoldable pub offers : Limits → World → List (List ℕ) → List Offer
+offers l w [] = []
+offers l w (p ∷ ps) = offering l w p ∷ offers l (offering l w p .world) ps
+
+module _ (l : Limits) (w : World) (h : length (w .hold) ≡ w .receiver .«hold_len») (s : w .receiver .stop ≢ 0) where
+  pub offer-stopped : (p : List ℕ) → offering l w p ≡ declined (stopOf (w .receiver)) w
+  unfolding offering
+  offer-stopped p = rw (eq-eqb _ _ h, ne-eqb _ _ s)
+
+  pub offers-stopped : (ps : List (List ℕ)) → offers l w ps ≡ map (λ _. declined (stopOf (w .receiver)) w) ps
+  unfolding offers
+  offers-stopped [] = refl
+  offers-stopped (p ∷ ps) = rw (offer-stopped p, offers-stopped ps)
+
+  pub later-stopped : (ps : List (List ℕ)) → later l w ps ≡ done 0 w
+  unfolding later
+  later-stopped [] = refl
+  later-stopped (p ∷ ps) = rw (offer-stopped p, later-stopped ps) (plus-zero _)
