@@ -4,4 +4,5 @@ pub mod HeldLaws
 pub mod ListLaws
 pub mod OfferSteps
 pub mod ReadSteps
+pub mod ReadingLaws
 pub mod Stops
