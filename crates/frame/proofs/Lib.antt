@@ -2,6 +2,7 @@ pub mod Cutting
 pub mod Firsts
 pub mod HeldLaws
 pub mod ListLaws
+pub mod OfferDepends
 pub mod OfferSteps
 pub mod ReadSteps
 pub mod ReadingLaws
