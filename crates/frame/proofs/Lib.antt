@@ -4,6 +4,7 @@ pub mod HeldLaws
 pub mod ListLaws
 pub mod OfferDepends
 pub mod OfferSteps
+pub mod OfferUses
 pub mod ReadSteps
 pub mod ReadingLaws
 pub mod Stops
