@@ -1,5 +1,6 @@
 pub mod Cutting
 pub mod Firsts
+pub mod FrameLaws
 pub mod HeldLaws
 pub mod ListLaws
 pub mod OfferDepends
@@ -7,4 +8,6 @@ pub mod OfferSteps
 pub mod OfferUses
 pub mod ReadSteps
 pub mod ReadingLaws
+pub mod ReceiverFacts
+pub mod ReceiverSteps
 pub mod Stops
