@@ -4,7 +4,7 @@ use Prim.Native.Nat.{ℕ, zero, suc, _+_}
 use lib.ListN.{length, drop}
 use Rattle.frame.specs.declared.receiver.Outcome.the-variants.{More, Handed, Stopped, Refused}
 use Rattle.frame.specs.Worlds.{Limits, World}
-use Rattle.frame.specs.Reading.{Event, frame, halt, Run, done, after}
+use Rattle.frame.specs.Reading.{frame, halt, Run, done, after}
 use Rattle.frame.specs.Offering.{Offer, offering}
 
 -- "the joined bytes"

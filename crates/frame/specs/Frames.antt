@@ -11,7 +11,6 @@ use Rattle.varint.specs.Stores.{part, filled}
 use Rattle.varint.specs.declared.Written.the-variants as W
 use Rattle.varint.specs.declared.error.Buffer.the-variants.{Out}
 use Rattle.varint.specs.declared.error.Refusal.the-variants.{UnexpectedEof, LengthOutOfRange, BlockTooLarge, TooSmall}
-use Rattle.frame.specs.declared.Frame.{Frame}
 use Rattle.frame.specs.declared.FrameHeader.{FrameHeader}
 use Rattle.frame.specs.declared.HeaderAnswer.{HeaderAnswer}
 use Rattle.frame.specs.declared.HeaderAnswer.the-variants.{Header, Refused}

@@ -4,5 +4,6 @@ pub mod Reading
 pub mod Offering
 pub mod Agreeing
 pub mod Driving
+pub mod Judging
 pub mod Runs
 pub mod Slots

@@ -17,7 +17,7 @@ use Rattle.frame.specs.declared.receiver.Outcome.{Outcome}
 use Rattle.frame.specs.declared.receiver.Outcome.the-variants.{More, Handed, Stopped, Refused}
 use Rattle.frame.specs.declared.FrameHeader.{FrameHeader}
 use Rattle.frame.specs.Frames.{kindOf, headerOf}
-use Rattle.frame.specs.Worlds.{Limits, Setup, Lent, World, receiverOf, running, pad}
+use Rattle.frame.specs.Worlds.{Limits, Setup, World, receiverOf, running, pad}
 use Rattle.frame.specs.Reading.{Verdict, refuse, gather, judge, decoded, lentBy}
 
 -- ---- opening

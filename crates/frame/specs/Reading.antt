@@ -1,5 +1,4 @@
 -- The reading of a run: what a whole run of bytes means, however it came. Demand 3 holds everything that is offered in pieces against it.
-use mathlib.Core.Path.{_≡_, refl}
 use mathlib.Core.List.{List, [], _∷_}
 use Prim.Native.Nat.{ℕ, zero, suc, _+_, _-_, min}
 use lib.Dec.{ltb}

@@ -2,8 +2,7 @@
 use mathlib.Core.Path.{_≡_, refl}
 use mathlib.Core.List.{List, [], _∷_}
 use Prim.Native.Nat.{ℕ}
-use lib.ListN.{length, replicate}
-use Rattle.varint.specs.Choice.{pick}
+use lib.ListN.{length}
 use Rattle.varint.specs.Fixed.{le}
 use Rattle.varint.specs.Refusals.{codeOf}
 use Rattle.varint.specs.Stores.{part, filled}
@@ -16,7 +15,7 @@ use Rattle.protocol.specs.declared.message.Message.the-variants as Msg
 use Rattle.frame.specs.declared.receiver.Receiver.{Receiver}
 use Rattle.frame.specs.Frames.{kindOf, streamOf, lengthOf}
 use Rattle.frame.specs.Worlds.{Setup, Lent, World, editor, receiverOf, running, pad, fresh}
-use Rattle.frame.specs.Reading.{Run, frame, halt, done, after, judge, firstOf, first, held, ended, decoded, answered, read, reading}
+use Rattle.frame.specs.Reading.{frame, halt, done, after, judge, firstOf, first, held, decoded, answered, read, reading}
 use Rattle.frame.specs.Offering.{Opens, opens, impossible, handed, loads, settles, takes, offering}
 use Rattle.frame.specs.Driving.{joined, plus, later, drive, size, driving}
 

@@ -1,8 +1,26 @@
 // The receiver: takes a run of bytes in pieces, as the network cut them, and hands out each frame with its message.
+ghost use mathlib.Core.Path.{_≡_};
+ghost use mathlib.Core.List.{_++_};
+ghost use Prim.Native.Nat.{ℕ, _-_, _≤_, _<_};
+ghost use lib.ListN.{length, take, drop, getD, replicate};
+ghost use Rattle.frame.specs.Worlds.{editor, receiverOf, running, pad};
+ghost use Rattle.frame.specs.Reading.{gather, decoded, judge as judging};
+ghost use Rattle.frame.specs.Offering.{opens, advanced, headerHeld, impossible as impossibleFor, setupOf, handed, loads, settles, offering, worldOf, offerOf};
+ghost use Rattle.frame.specs.Frames.{headerOf};
+ghost use Rattle.frame.specs.Judging.{Judges};
+ghost use Rattle.frame.specs.declared.receiver.Outcome.the-variants.{Refused as Declined};
+use crate::Frame;
 use crate::FrameHeader;
+use crate::HeaderAnswer;
+use crate::decode_header;
+use protocol::decode;
 use protocol::message::Answer;
+use varint::error::Buffer;
 use varint::error::Code;
 use varint::error::Refusal;
+use varint::error::code_of;
+use varint::store::clear_bytes;
+use varint::store::copy_bytes;
 
 // Plain numbers, so that a host can lend it: a stop is the refusal's number and details, and 0 while the receiver runs.
 #[repr(C)]
@@ -44,4 +62,287 @@ pub struct Offered {
     pub receiver: Receiver,
     pub used: usize,
     pub outcome: Outcome,
+}
+
+// What nine header bytes say: the run stops, or so much payload is to be gathered.
+enum Verdict {
+    Refuse(Refusal),
+    Gather(FrameHeader),
+}
+
+// A receiver before its first opening.
+pub fn unopened() -> Receiver
+    ensures { λ r. ⌜ r ≡ receiverOf (record { table = replicate 256 0; room = 0 }) (replicate 9 0) 0 0 running ⌝ }
+{
+    Receiver {
+        table: [0u8; 256],
+        header: [0u8; 9],
+        header_len: 0,
+        payload_len: 0,
+        hold_len: 0,
+        stop: 0,
+        stop_a: 0,
+        stop_b: 0,
+    }
+}
+
+fn kind_table(table: &[u8]) -> [u8; 256]
+    requires { ⌜ length (now table) ≡ 256 ⌝ }
+    ensures { λ r. ⌜ r ≡ now (table .entry) ⌝ }
+{
+    let mut entries = [0u8; 256];
+    copy_bytes(table, 0, 256, &mut entries, 0);
+    entries
+}
+
+// Opens a receiver over a kind table and a hold, and clears the hold.
+pub fn open(receiver: Receiver, table: &[u8], hold: &mut [u8]) -> Opened
+    ensures { λ r. ⌜ record { opening = r .opening; receiver = r .receiver; hold = now (hold .exit) } ≡ opens receiver (now (table .entry)) (now (hold .entry)) ⌝ }
+{
+    if table.len() != 256 {
+        return Opened {
+            receiver,
+            opening: Opening::Refused(Refusal::BadKindTable(table.len() as u64)),
+        };
+    }
+    let entries = kind_table(table);
+    clear_bytes(hold, 0);
+    Opened {
+        receiver: Receiver {
+            table: entries,
+            header: [0u8; 9],
+            header_len: 0,
+            payload_len: 0,
+            hold_len: hold.len(),
+            stop: 0,
+            stop_a: 0,
+            stop_b: 0,
+        },
+        opening: Opening::Accepted,
+    }
+}
+
+fn judge(header: [u8; 9], room: usize) -> Verdict
+    ensures { λ r. ⌜ Judges editor room header r ⌝ }
+{
+    match decode_header(&header) {
+        HeaderAnswer::Refused(e) => Verdict::Refuse(e),
+        HeaderAnswer::Header(h) => {
+            if room < h.length as usize {
+                return Verdict::Refuse(Refusal::TooSmall {
+                    which: Buffer::Hold,
+                    needed: h.length as u64,
+                });
+            }
+            Verdict::Gather(h)
+        }
+    }
+}
+
+// Counts that no offer leaves.
+fn impossible(receiver: Receiver) -> bool
+    ensures { λ r. ⌜ r ≡ impossibleFor editor receiver ⌝ }
+{
+    if Frame::HEADER_LEN < receiver.header_len {
+        return true;
+    }
+    if receiver.header_len < Frame::HEADER_LEN {
+        return 0 < receiver.payload_len;
+    }
+    let header = receiver.header;
+    match judge(header, receiver.hold_len) {
+        Verdict::Refuse(_) => true,
+        Verdict::Gather(h) => h.length as usize <= receiver.payload_len,
+    }
+}
+
+// The receiver with another header and other counts.
+fn advance(receiver: Receiver, header: [u8; 9], header_len: usize, payload_len: usize) -> Receiver
+    ensures { λ r. ⌜ r ≡ advanced receiver header «header_len» «payload_len» ⌝ }
+{
+    let table = receiver.table;
+    Receiver {
+        table,
+        header,
+        header_len,
+        payload_len,
+        hold_len: receiver.hold_len,
+        stop: receiver.stop,
+        stop_a: receiver.stop_a,
+        stop_b: receiver.stop_b,
+    }
+}
+
+fn halt(receiver: Receiver, header: [u8; 9], stop: Code) -> Receiver
+    ensures { λ r. ⌜ r ≡ receiverOf (setupOf receiver) header 9 0 stop ⌝ }
+{
+    let table = receiver.table;
+    Receiver {
+        table,
+        header,
+        header_len: Frame::HEADER_LEN,
+        payload_len: 0,
+        hold_len: receiver.hold_len,
+        stop: stop.number,
+        stop_a: stop.a,
+        stop_b: stop.b,
+    }
+}
+
+fn entry_of(table: [u8; 256], kind: u8) -> u8
+    ensures { λ r. ⌜ r ≡ getD table kind 0 ⌝ }
+{
+    table[kind as usize]
+}
+
+// The header that is held, with the bytes that it lacks from the piece, and zeros after them.
+fn fill_header(held: [u8; 9], at: usize, piece: &[u8]) -> [u8; 9]
+    requires { ⌜ at ≤ 9 ⌝ }
+    ensures { λ r. ⌜ r ≡ pad 9 (take at held ++ take (9 - at) (now (piece .entry))) ⌝ }
+{
+    let mut header = held;
+    clear_bytes(&mut header, at);
+    copy_bytes(piece, 0, Frame::HEADER_LEN - at, &mut header, at);
+    header
+}
+
+// The payload is whole in the hold: it is decoded, and the hold goes to zero.
+fn hand_out(
+    receiver: Receiver,
+    header: FrameHeader,
+    used: usize,
+    hold: &mut [u8],
+    text: &mut [u8],
+    rows: &mut [u64],
+    nodes: &mut [u64],
+) -> Offered
+    requires { ⌜ header .length ≤ length (now hold) ⌝ }
+    ensures { λ r. ⌜ offerOf r (now (hold .exit)) (now (text .exit)) (now (rows .exit)) (now (nodes .exit)) ≡ handed (worldOf receiver (now (hold .entry)) (now (text .entry)) (now (rows .entry)) (now (nodes .entry))) header used (decoded editor (setupOf receiver) (header .kind) (take (header .length) (now (hold .entry))) (record { text = now (text .entry); rows = now (rows .entry); nodes = now (nodes .entry) })) ⌝ }
+{
+    let table = receiver.table;
+    let entry = entry_of(table, header.kind);
+    let answer = decode(entry, &hold[..header.length as usize], text, rows, nodes);
+    clear_bytes(hold, 0);
+    Offered {
+        receiver: advance(receiver, [0u8; 9], 0, 0),
+        used,
+        outcome: Outcome::Handed { header, answer },
+    }
+}
+
+// Nine header bytes are there, the last of them the piece's byte before `used`; the payload is gathered in the hold.
+fn load(
+    receiver: Receiver,
+    bytes: [u8; 9],
+    header: FrameHeader,
+    used: usize,
+    piece: &[u8],
+    hold: &mut [u8],
+    text: &mut [u8],
+    rows: &mut [u64],
+    nodes: &mut [u64],
+) -> Offered
+    requires { ⌜ (header ≡ headerOf bytes) × (receiver .«payload_len» ≤ header .length) × (header .length ≤ length (now hold)) × (used ≤ length (now piece)) ⌝ }
+    ensures { λ r. ⌜ offerOf r (now (hold .exit)) (now (text .exit)) (now (rows .exit)) (now (nodes .exit)) ≡ loads editor (worldOf receiver (now (hold .entry)) (now (text .entry)) (now (rows .entry)) (now (nodes .entry))) bytes used (drop used (now (piece .entry))) (header .length) ⌝ }
+{
+    let have = receiver.payload_len;
+    let wanted = header.length as usize - have;
+    let left = piece.len() - used;
+    copy_bytes(piece, used, wanted, hold, have);
+    if left < wanted {
+        return Offered {
+            receiver: advance(receiver, bytes, Frame::HEADER_LEN, have + left),
+            used: piece.len(),
+            outcome: Outcome::More,
+        };
+    }
+    hand_out(receiver, header, used + wanted, hold, text, rows, nodes)
+}
+
+// Nine header bytes are there: the run stops, or the payload is gathered.
+fn settle(
+    receiver: Receiver,
+    bytes: [u8; 9],
+    used: usize,
+    piece: &[u8],
+    hold: &mut [u8],
+    text: &mut [u8],
+    rows: &mut [u64],
+    nodes: &mut [u64],
+) -> Offered
+    requires { ⌜ ((n : ℕ) → judging editor (receiver .«hold_len») bytes ≡ gather n → receiver .«payload_len» ≤ n) × (length (now hold) ≡ receiver .«hold_len») × (used ≤ length (now piece)) ⌝ }
+    ensures { λ r. ⌜ offerOf r (now (hold .exit)) (now (text .exit)) (now (rows .exit)) (now (nodes .exit)) ≡ settles editor (judging editor (receiver .«hold_len») bytes) (worldOf receiver (now (hold .entry)) (now (text .entry)) (now (rows .entry)) (now (nodes .entry))) bytes used (drop used (now (piece .entry))) ⌝ }
+{
+    match judge(bytes, receiver.hold_len) {
+        Verdict::Refuse(e) => {
+            let stop = code_of(e);
+            clear_bytes(hold, 0);
+            Offered {
+                receiver: halt(receiver, bytes, stop),
+                used,
+                outcome: Outcome::Stopped(stop),
+            }
+        }
+        Verdict::Gather(header) => load(
+            receiver,
+            bytes,
+            header,
+            used,
+            piece,
+            hold,
+            text,
+            rows,
+            nodes,
+        ),
+    }
+}
+
+fn decline(receiver: Receiver, why: Code) -> Offered
+    ensures { λ r. ⌜ r ≡ record { receiver = receiver; used = 0; outcome = Declined why } ⌝ }
+{
+    Offered {
+        receiver,
+        used: 0,
+        outcome: Outcome::Refused(why),
+    }
+}
+
+// Offers a piece of the run. It is read to the first frame's end, a stop or the piece's end; what is left of it after a frame is offered again.
+pub fn offer(
+    receiver: Receiver,
+    piece: &[u8],
+    hold: &mut [u8],
+    text: &mut [u8],
+    rows: &mut [u64],
+    nodes: &mut [u64],
+) -> Offered
+    ensures { λ r. ⌜ offerOf r (now (hold .exit)) (now (text .exit)) (now (rows .exit)) (now (nodes .exit)) ≡ offering editor (worldOf receiver (now (hold .entry)) (now (text .entry)) (now (rows .entry)) (now (nodes .entry))) (now (piece .entry)) ⌝ }
+{
+    if hold.len() != receiver.hold_len {
+        return decline(receiver, code_of(Refusal::BadReceiver));
+    }
+    if receiver.stop != 0 {
+        return decline(
+            receiver,
+            Code {
+                number: receiver.stop,
+                a: receiver.stop_a,
+                b: receiver.stop_b,
+            },
+        );
+    }
+    if impossible(receiver) {
+        return decline(receiver, code_of(Refusal::BadReceiver));
+    }
+    let held = receiver.header;
+    let lacking = Frame::HEADER_LEN - receiver.header_len;
+    let header = fill_header(held, receiver.header_len, piece);
+    if piece.len() < lacking {
+        return Offered {
+            receiver: advance(receiver, header, receiver.header_len + piece.len(), 0),
+            used: piece.len(),
+            outcome: Outcome::More,
+        };
+    }
+    settle(receiver, header, lacking, piece, hold, text, rows, nodes)
 }
