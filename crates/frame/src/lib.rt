@@ -53,7 +53,7 @@ impl Frame {
     pub const HEADER_LEN: usize = 9;
 
     // The most payload that a frame may carry, as much as a message may have.
-    pub const MAX_PAYLOAD: u64 = 67108864;
+    pub const MAX_PAYLOAD: u64 = desc::MAX_PAYLOAD;
 }
 
 // A payload's length as its header has it.

@@ -27,7 +27,7 @@ use varint::store::copy_bytes;
 pub struct Receiver {
     // The message that each kind byte names, 1 to 12; any other number: an opaque payload.
     pub table: [u8; 256],
-    pub header: [u8; 9],
+    pub header: [u8; Frame::HEADER_LEN],
     pub header_len: usize,
     pub payload_len: usize,
     pub hold_len: usize,
@@ -222,7 +222,7 @@ fn hand_out(
     let table = receiver.table;
     let entry = entry_of(table, header.kind);
     let answer = decode(entry, &hold[..header.length as usize], text, rows, nodes);
-    clear_bytes(hold, 0);
+    clear_bytes(hold, 0); // no byte of this frame may show in the next
     Offered {
         receiver: advance(receiver, [0u8; 9], 0, 0),
         used,
