@@ -8,17 +8,12 @@ use borrow.Author.Tests.{eq-eqb, ne-eqb}
 use lib.ListN.{length}
 use Rattle.frame.specs.Worlds.{Limits, World}
 use Rattle.frame.specs.Reading.{Run, done}
-use Rattle.frame.specs.Offering.{Offer, declined, stopOf, offering}
-use Rattle.frame.specs.Driving.{plus, later}
+use Rattle.frame.specs.Offering.{declined, stopOf, offering}
+use Rattle.frame.specs.Driving.{plus, later, offers}
 
 pub plus-zero : (r : Run) → plus 0 r ≡ r
 unfolding plus
 plus-zero r = rw zero-add
-
--- a list of pieces, each offered once
-unfoldable pub offers : Limits → World → List (List ℕ) → List Offer
-offers l w [] = []
-offers l w (p ∷ ps) = offering l w p ∷ offers l (offering l w p .world) ps
 
 module _ (l : Limits) (w : World) (h : length (w .hold) ≡ w .receiver .«hold_len») (s : w .receiver .stop ≢ 0) where
   pub offer-stopped : (p : List ℕ) → offering l w p ≡ declined (stopOf (w .receiver)) w

@@ -17,6 +17,11 @@ unfoldable pub plus : ℕ → Run → Run
 plus n r = record { events = r .events; used = n + r .used; world = r .world }
 
 module _ (l : Limits) where
+  -- what each offer of a list of pieces gives, each piece offered once
+  unfoldable pub offers : World → List (List ℕ) → List Offer
+  offers w [] = []
+  offers w (p ∷ ps) = offering l w p ∷ offers (offering l w p .world) ps
+
   -- "each later piece is offered once"
   unfoldable pub later : World → List (List ℕ) → Run
   later w [] = done 0 w
