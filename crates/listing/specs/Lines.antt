@@ -4,10 +4,12 @@ use mathlib.Core.Path.{_≡_, refl}
 use mathlib.Core.List.{List, [], _∷_, _++_}
 use Prim.Native.Nat.{ℕ, zero, suc, _+_, _/_, _%_}
 use lib.Dec.{ltb}
+use Rattle.varint.specs.Outs.{declared}
 use Rattle.varint.specs.Refusals.{codeOf}
 use Rattle.varint.specs.declared.error.Refusal.the-variants.{UnexpectedEof}
 use Rattle.protocol.specs.declared.message.Answer.{Answer}
 use Rattle.protocol.specs.declared.message.Answer.the-variants.{Accepted, Refused}
+use Rattle.frame.specs.declared.receiver.Receiver.{Receiver}
 use Rattle.listing.specs.declared.Last.{Last}
 use Rattle.listing.specs.declared.Last.the-variants.{Held, Stopped}
 
@@ -32,6 +34,10 @@ lineOf kind stream len number = column kind 0x20 ++ column stream 0x20 ++ column
 abbrev pub numberOf : Answer → ℕ
 numberOf (Accepted m) = 0
 numberOf (Refused e) = codeOf e .number
+
+-- "the count of header and payload bytes held". Of a receiver that no offer leaves the sum may be over 64 bits: 2^64−1 stands for it.
+abbrev pub heldOf : Receiver → ℕ
+heldOf r = declared (r .«header_len» + r .«payload_len»)
 
 -- `held ` and `stopped `
 abbrev pub held : List ℕ

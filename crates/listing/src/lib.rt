@@ -3,7 +3,8 @@ ghost use mathlib.Core.Path.{_≡_};
 ghost use Prim.Native.Nat.{_≤_};
 ghost use lib.ListN.{length};
 ghost use lib.Seq.{sets};
-ghost use Rattle.listing.specs.Lines.{decimal, column, lineOf, numberOf, lastLine};
+ghost use Rattle.listing.specs.Lines.{decimal, column, lineOf, numberOf, heldOf, lastLine};
+use frame::receiver::Receiver;
 use protocol::message::Answer;
 use varint::error::code_of;
 use varint::store::copy_bytes;
@@ -45,9 +46,21 @@ pub fn number_of(answer: Answer) -> u64
     }
 }
 
-// The line of a frame, from the start of `out` on.
+// The header and payload bytes that a receiver holds; 2^64−1 stands for more as well.
+pub fn held_of(receiver: Receiver) -> u64
+    ensures { λ r. ⌜ r ≡ heldOf receiver ⌝ }
+{
+    let header = receiver.header_len as u64;
+    let payload = receiver.payload_len as u64;
+    if u64::MAX - header < payload {
+        return u64::MAX;
+    }
+    header + payload
+}
+
+// The line of a frame, from the start of `out` on. It has at most 84 bytes.
 pub fn put_line(out: &mut [u8], kind: u8, stream: u32, len: u32, number: u64) -> usize
-    ensures { λ r. ⌜ (r ≡ length (lineOf kind stream len number)) × (now (out .exit) ≡ sets (now (out .entry)) 0 (lineOf kind stream len number)) ⌝ }
+    ensures { λ r. ⌜ (r ≡ length (lineOf kind stream len number)) × (r ≤ 84) × (now (out .exit) ≡ sets (now (out .entry)) 0 (lineOf kind stream len number)) ⌝ }
 {
     let a = put_column(out, 0, kind as u64, b' ');
     let b = a + put_column(out, a, stream as u64, b' ');
@@ -55,9 +68,9 @@ pub fn put_line(out: &mut [u8], kind: u8, stream: u32, len: u32, number: u64) ->
     c + put_column(out, c, number, b'\n')
 }
 
-// The last line, from the start of `out` on.
+// The last line, from the start of `out` on. It has at most 29 bytes.
 pub fn put_last(out: &mut [u8], last: Last) -> usize
-    ensures { λ r. ⌜ (r ≡ length (lastLine last)) × (now (out .exit) ≡ sets (now (out .entry)) 0 (lastLine last)) ⌝ }
+    ensures { λ r. ⌜ (r ≡ length (lastLine last)) × (r ≤ 29) × (now (out .exit) ≡ sets (now (out .entry)) 0 (lastLine last)) ⌝ }
 {
     match last {
         Last::Held(n) => {

@@ -23,13 +23,13 @@ put-decimal-requires : tie.Need-put-decimal-requires
 put-decimal-requires c κs = search needs
 
 add-store-byte : tie.Need-add-store-byte
-add-store-byte c = (omega (arith, c .before .before .before .put-decimal .ensures .0, decimal-length-64 (c .before .before .before .before .before .before .args .n) (c .before .before .before .before .before .before .fits .n .fits)))
+add-store-byte c = omega (arith, c .before .before .before .put-decimal .ensures .0, decimal-length-64 (c .before .before .before .before .before .before .args .n) (c .before .before .before .before .before .before .fits .n .fits))
 
 store-byte-requires : tie.Need-store-byte-requires
 store-byte-requires c κs = search needs
 
 add-result : tie.Need-add-result
-add-result c = (omega (arith, c .before .before .before .before .before .before .put-decimal .ensures .0, decimal-length-64 (c .before .before .before .before .before .before .before .before .before .args .n) (c .before .before .before .before .before .before .before .before .before .fits .n .fits)))
+add-result c = omega (arith, c .before .before .before .before .before .before .put-decimal .ensures .0, decimal-length-64 (c .before .before .before .before .before .before .before .before .before .args .n) (c .before .before .before .before .before .before .before .before .before .fits .n .fits))
 
 same-length : tie.Need-same-length
 same-length c = search needs

@@ -1,6 +1,6 @@
 use mathlib.Core.Path.{_≡_, _∙_, ap}
 use mathlib.Core.List.{List, _++_}
-use Prim.Native.Nat.{ℕ, _+_}
+use Prim.Native.Nat.{ℕ, _+_, _≤_}
 use native.Mathlib.Omega.{arith}
 use lib.ListN.{length}
 use lib.Seq.{sets}
@@ -15,12 +15,12 @@ use Rattle.listing.proofs.put_last.Tie as tie
 
 -- a word, and the number behind it
 closing : (w : List ℕ) (n : ℕ) (d : List ℕ) {x d₁ d₂ : List ℕ} {r : ℕ} → x ≡ w ++ column n 0x0A → d₁ ≡ sets d 0 (part w 0 (length w))
-    → r ≡ length (column n 0x0A) → d₂ ≡ sets d₁ (length w) (column n 0x0A) → (length w + r ≡ length x) × (d₂ ≡ sets d 0 x)
-closing w n d {d₁ = d₁} h e l f =
+    → r ≡ length (column n 0x0A) → d₂ ≡ sets d₁ (length w) (column n 0x0A) → length w + r ≤ 29 → (length w + r ≡ length x) × (length w + r ≤ 29) × (d₂ ≡ sets d 0 x)
+closing w n d {d₁ = d₁} h e l f b =
     let y : Stored d 0 w d₁ (length w) = record { place = omega arith; same = e ∙ ap (sets d 0) (part-all w) } in
     let s = stored-more y (column n 0x0A) l f in
     let p = s .place in
-    rw h (omega arith, s .same)
+    rw h (omega arith, b, s .same)
 
 enum-known-last : tie.Need-enum-known-last
 enum-known-last c = search needs
@@ -57,14 +57,14 @@ same-length c = search needs
 
 returns : tie.Need-returns
 unfolding lastLine
-returns c = closing held _ (now (c .before .before .before .before .before .before .before .before .before .before .before .before .before .args .out)) (ap lastLine (c .before .before .before .before .before .before .before .before .before .before .last .given .1)) (c .before .before .before .before .before .before .copy-bytes .ensures) (c .before .before .put-column .ensures .0) (c .before .before .put-column .ensures .2)
+returns c = closing held _ (now (c .before .before .before .before .before .before .before .before .before .before .before .before .before .args .out)) (ap lastLine (c .before .before .before .before .before .before .before .before .before .before .last .given .1)) (c .before .before .before .before .before .before .copy-bytes .ensures) (c .before .before .put-column .ensures .0) (c .before .before .put-column .ensures .2) (omega arith)
 
 same-length-2 : tie.Need-same-length-2
 same-length-2 c = search needs
 
 returns-2 : tie.Need-returns-2
 unfolding lastLine
-returns-2 c = closing stopped _ (now (c .before .before .before .before .before .before .before .before .before .before .before .before .before .args .out)) (ap lastLine (c .before .before .before .before .before .before .before .before .before .before .last2 .given .1)) (c .before .before .before .before .before .before .copy-bytes2 .ensures) (c .before .before .put-column2 .ensures .0) (c .before .before .put-column2 .ensures .2)
+returns-2 c = closing stopped _ (now (c .before .before .before .before .before .before .before .before .before .before .before .before .before .args .out)) (ap lastLine (c .before .before .before .before .before .before .before .before .before .before .last2 .given .1)) (c .before .before .before .before .before .before .copy-bytes2 .ensures) (c .before .before .put-column2 .ensures .0) (c .before .before .put-column2 .ensures .2) (omega arith)
 
 pub put-last-spec : {M : Type 1} → statement M
 put-last-spec =

@@ -1,6 +1,6 @@
 use mathlib.Core.Path.{_≡_}
 use mathlib.Core.List.{List}
-use Prim.Native.Nat.{ℕ, _+_}
+use Prim.Native.Nat.{ℕ, _+_, _≤_}
 use native.Mathlib.Omega.{arith}
 use lib.ListN.{length}
 use lib.Seq.{sets}
@@ -17,13 +17,13 @@ four : (kind stream len number : ℕ) (d : List ℕ) {d₁ d₂ d₃ d₄ : List
     → b ≡ length (column stream 0x20) → d₂ ≡ sets d₁ a (column stream 0x20)
     → c ≡ length (column len 0x20) → d₃ ≡ sets d₂ (a + b) (column len 0x20)
     → e ≡ length (column number 0x0A) → d₄ ≡ sets d₃ (a + b + c) (column number 0x0A)
-    → (a + b + c + e ≡ length (lineOf kind stream len number)) × (d₄ ≡ sets d 0 (lineOf kind stream len number))
+    → a + b + c + e ≤ 84 → (a + b + c + e ≡ length (lineOf kind stream len number)) × (a + b + c + e ≤ 84) × (d₄ ≡ sets d 0 (lineOf kind stream len number))
 unfolding lineOf
-four kind stream len number d {d₁} {a = a} la ea lb eb lc ec le ee =
+four kind stream len number d {d₁} {a = a} la ea lb eb lc ec le ee h =
     let s₁ : Stored d 0 (column kind 0x20) d₁ a = record { place = omega arith; same = ea } in
     let s = stored-more (stored-more (stored-more s₁ (column stream 0x20) lb eb) (column len 0x20) lc ec) (column number 0x0A) le ee in
     let p = s .place in
-    (omega arith, s .same)
+    (omega arith, h, s .same)
 
 put-column-requires : tie.Need-put-column-requires
 put-column-requires c κs = search needs
@@ -52,7 +52,7 @@ same-length c = search needs
 returns : tie.Need-returns
 returns c =
     let a = c .before .before .before .before .before .before .before .before .before .before .before .before .before .before .before .before .before .args in
-    four (a .kind) (a .stream) (a .len) (a .number) (now (a .out)) (c .before .before .before .before .before .before .before .before .before .before .before .before .before .before .put-column .ensures .0) (c .before .before .before .before .before .before .before .before .before .before .before .before .before .before .put-column .ensures .2) (c .before .before .before .before .before .before .before .before .before .before .put-column2 .ensures .0) (c .before .before .before .before .before .before .before .before .before .before .put-column2 .ensures .2) (c .before .before .before .before .before .before .put-column3 .ensures .0) (c .before .before .before .before .before .before .put-column3 .ensures .2) (c .before .before .put-column4 .ensures .0) (c .before .before .put-column4 .ensures .2)
+    four (a .kind) (a .stream) (a .len) (a .number) (now (a .out)) (c .before .before .before .before .before .before .before .before .before .before .before .before .before .before .put-column .ensures .0) (c .before .before .before .before .before .before .before .before .before .before .before .before .before .before .put-column .ensures .2) (c .before .before .before .before .before .before .before .before .before .before .put-column2 .ensures .0) (c .before .before .before .before .before .before .before .before .before .before .put-column2 .ensures .2) (c .before .before .before .before .before .before .put-column3 .ensures .0) (c .before .before .before .before .before .before .put-column3 .ensures .2) (c .before .before .put-column4 .ensures .0) (c .before .before .put-column4 .ensures .2) (omega arith)
 
 pub put-line-spec : {M : Type 1} → statement M
 put-line-spec =
