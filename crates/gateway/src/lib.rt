@@ -1,0 +1,2 @@
+// The C entry points of the fjord session wire: the layers below, on numbers and slices.
+mod numbers;
