@@ -321,7 +321,7 @@ fn nodes_laid(kind: RowKind, limit: u64, rows: &[u64], nodes: &[u64], count: u64
 }
 
 // Are there fewer rows than `count`? By a division, since a product might not fit.
-pub(crate) fn few_rows(kind: RowKind, rows: &[u64], count: u64) -> bool
+pub fn few_rows(kind: RowKind, rows: &[u64], count: u64) -> bool
     ensures { λ v. ⌜ v ≡ ltb (length (now (rows .entry))) (count * widthOf kind) ⌝ }
 {
     let whole = rows.len() / kind.width();

@@ -1,5 +1,5 @@
 // Encoding the session messages of fjord (protocol.rs): a message and the lent memory that it points into, back to a frame's payload.
-mod checks;
+pub mod checks;
 mod write;
 
 ghost use mathlib.Core.Path.{_≡_};
