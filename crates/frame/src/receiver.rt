@@ -189,7 +189,8 @@ fn halt(receiver: Receiver, header: [u8; 9], stop: Code) -> Receiver
     }
 }
 
-fn entry_of(table: [u8; 256], kind: u8) -> u8
+// The message that a kind names.
+pub fn entry_of(table: [u8; 256], kind: u8) -> u8
     ensures { λ r. ⌜ r ≡ getD table kind 0 ⌝ }
 {
     table[kind as usize]

@@ -24,7 +24,7 @@ use Rattle.gateway.specs.declared.numbers.MaybeMessage.{MaybeMessage}
 use Rattle.gateway.specs.declared.numbers.MaybeMessage.the-variants.{Known, Unknown}
 
 -- the answer y of the parts p was written, and x returned
-abbrev Tells : Parts → ℕ → List ℕ → Type 0
+abbrev pub Tells : Parts → ℕ → List ℕ → Type 0
 Tells p x y = (x ≡ p .refusal .number) × (y ≡ numbersOf p)
 
 module _ {p : Parts} {x : ℕ} {y : List ℕ} (h : Tells p x y) where

@@ -1,5 +1,6 @@
 pub mod AnswerLaws
 pub mod EntryLaws
 pub mod FieldLaws
+pub mod FrameEntryLaws
 pub mod NumberLaws
 pub mod Ranges

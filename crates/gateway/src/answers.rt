@@ -46,7 +46,7 @@ fn numbers_of(p: Parts) -> [u64; 16]
     ]
 }
 
-fn given(refusal: Code, used: u64, message: u64, fields: [u64; 6]) -> Parts
+pub(crate) fn given(refusal: Code, used: u64, message: u64, fields: [u64; 6]) -> Parts
     ensures { λ r. ⌜ r ≡ given refusal used message fields ⌝ }
 {
     Parts {
@@ -60,7 +60,7 @@ fn given(refusal: Code, used: u64, message: u64, fields: [u64; 6]) -> Parts
     }
 }
 
-fn accepted(used: u64, message: u64, fields: [u64; 6]) -> Parts
+pub(crate) fn accepted(used: u64, message: u64, fields: [u64; 6]) -> Parts
     ensures { λ r. ⌜ r ≡ accepted used message fields ⌝ }
 {
     given(
@@ -75,7 +75,7 @@ fn accepted(used: u64, message: u64, fields: [u64; 6]) -> Parts
     )
 }
 
-fn refused(message: u64, e: Refusal) -> Parts
+pub(crate) fn refused(message: u64, e: Refusal) -> Parts
     ensures { λ r. ⌜ r ≡ refused message e ⌝ }
 {
     given(code_of(e), 0, message, [0; 6])

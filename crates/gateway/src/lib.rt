@@ -1,7 +1,9 @@
 // The C entry points of the fjord session wire: the layers below, on numbers and slices. Each writes its whole answer, sixteen numbers, and returns 0
 // or the refusal's number.
 mod answers;
+mod frames;
 mod numbers;
+mod receiver;
 
 ghost use mathlib.Core.Path.{_≡_};
 ghost use Prim.Native.Nat.{_*_};
@@ -31,7 +33,7 @@ use varint::error::Refusal;
 use varint::get_u64;
 
 // The message that an entry of the kind table names, or 0 for an opaque payload.
-fn named(entry: u64) -> u8
+pub(crate) fn named(entry: u64) -> u8
     ensures { λ r. ⌜ r ≡ named entry ⌝ }
 {
     if 12 < entry {
