@@ -12,11 +12,7 @@ struct Lent {
 }
 
 fn lent(text: usize, rows: usize, nodes: usize) -> Lent {
-    Lent {
-        text: vec![9; text],
-        rows: vec![9; rows],
-        nodes: vec![9; nodes],
-    }
+    Lent { text: vec![9; text], rows: vec![9; rows], nodes: vec![9; nodes] }
 }
 
 fn answer() -> Answer {
@@ -83,31 +79,14 @@ fn encode(number: u64, fields: [u64; 6], text: &[u8], rows: &[u64], nodes: &[u64
 fn encode_frame(kind: u8, stream: u32, payload: &[u8], out: &mut [u8]) -> (u64, Answer) {
     let mut a = answer();
     let r = unsafe {
-        fjord_encode_frame(
-            kind,
-            stream,
-            payload.as_ptr(),
-            payload.len(),
-            out.as_mut_ptr(),
-            out.len(),
-            &mut a,
-        )
+        fjord_encode_frame(kind, stream, payload.as_ptr(), payload.len(), out.as_mut_ptr(), out.len(), &mut a)
     };
     (r, a)
 }
 
 fn open(receiver: &mut Receiver, table: &[u8], hold: &mut [u8]) -> (u64, Answer) {
     let mut a = answer();
-    let r = unsafe {
-        fjord_open(
-            receiver,
-            table.as_ptr(),
-            table.len(),
-            hold.as_mut_ptr(),
-            hold.len(),
-            &mut a,
-        )
-    };
+    let r = unsafe { fjord_open(receiver, table.as_ptr(), table.len(), hold.as_mut_ptr(), hold.len(), &mut a) };
     (r, a)
 }
 
@@ -173,7 +152,18 @@ fn messages_are_decoded() {
     // an empty slice may have no address
     let mut a = answer();
     let r = unsafe {
-        fjord_decode(0, std::ptr::null(), 0, std::ptr::null_mut(), 0, std::ptr::null_mut(), 0, std::ptr::null_mut(), 0, &mut a)
+        fjord_decode(
+            0,
+            std::ptr::null(),
+            0,
+            std::ptr::null_mut(),
+            0,
+            std::ptr::null_mut(),
+            0,
+            std::ptr::null_mut(),
+            0,
+            &mut a,
+        )
     };
     assert_eq!((r, a), (0, told(&[])));
 }
@@ -265,9 +255,8 @@ fn a_slot_shows_one_text() {
     let mut slot = *b"................";
     let mut a = answer();
     let mut put = |start, length, slot: &mut [u8]| {
-        let r = unsafe {
-            fjord_put_slot(text.as_ptr(), text.len(), start, length, slot.as_mut_ptr(), slot.len(), &mut a)
-        };
+        let r =
+            unsafe { fjord_put_slot(text.as_ptr(), text.len(), start, length, slot.as_mut_ptr(), slot.len(), &mut a) };
         (r, a)
     };
     assert_eq!(put(0, 16, &mut slot), (0, told(&[])));
