@@ -4,6 +4,7 @@
 //   kind u8 | stream u32 | length u32 | payload
 //
 // What a kind means is the layer above's to say: the receiver's kind table does.
+pub mod kinds;
 pub mod receiver;
 pub mod slot;
 
@@ -25,7 +26,7 @@ use varint::store::clear_bytes;
 use varint::store::copy_bytes;
 use varint::store::store_byte;
 
-// A frame's header, decoded. `FrameKind` of the messages names the kinds.
+// A frame's header, decoded. `kinds::FrameKind` names the kinds.
 pub struct FrameHeader {
     pub kind: u8,
     pub stream: u32,

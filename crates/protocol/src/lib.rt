@@ -3,7 +3,6 @@
 // A message is read twice: once to see whether it is one and how much memory it takes, and once to store it. Both are one function, which is
 // lent small buffers of its own the first time. UTF-8 is checked in the first reading only.
 mod fields;
-pub mod kinds;
 pub mod message;
 mod read;
 mod rows;
