@@ -123,7 +123,7 @@ impl Campaign {
             Err(_) => {
                 self.tally.count(RUNS, Class::Accepted);
                 if self.tally.differs(RUNS) {
-                    self.tally.keep(RUNS, smallest_run(run));
+                    self.tally.keep(RUNS, run_found(&smaller_run(run)));
                 }
             }
         }
@@ -137,8 +137,8 @@ fn class(number: u64) -> Class {
     }
 }
 
-/// A run that differs with fewer bytes, and then with fewer cuts.
-fn smallest_run(mut run: Run) -> Finding {
+/// A run that differs with fewer bytes, then with fewer cuts, then with fewer kinds that name a message.
+fn smaller_run(mut run: Run) -> Run {
     let with = |bytes: &[u8]| Run {
         bytes: bytes.to_vec(),
         ..run.clone()
@@ -151,12 +151,24 @@ fn smallest_run(mut run: Run) -> Finding {
             run = fewer;
         }
     }
-    let how = compare_run(&run).err().expect("a run that differs");
+    for kind in 0..256 {
+        let mut opaque = run.clone();
+        opaque.table[kind] = 0;
+        if compare_run(&opaque).is_err() {
+            run = opaque;
+        }
+    }
+    run
+}
+
+fn run_found(run: &Run) -> Finding {
+    let how = compare_run(run).err().expect("a run that differs");
     let size = run.bytes.len();
-    let (bytes, table) = (hex(&run.bytes), hex(&run.table));
+    let entries = run.table.iter().enumerate();
+    let named: Vec<_> = entries.filter(|(_, entry)| **entry != 0).collect();
+    let (bytes, cuts, hold, room) = (hex(&run.bytes), &run.cuts, run.hold, run.room);
     let story = format!(
-        "{size} bytes, {bytes}, cut at {:?}, hold {}, text, rows, nodes {:?}, table {table}\n{how}",
-        run.cuts, run.hold, run.room
+        "{size} bytes, {bytes}, cut at {cuts:?}, hold {hold}, text, rows, nodes {room:?}, kinds {named:?}\n{how}"
     );
     Finding::new(size, story)
 }

@@ -28,9 +28,6 @@ struct Shrinker<F> {
 
 impl<F: FnMut(&[u8]) -> bool> Shrinker<F> {
     fn try_out(&mut self, smaller: Vec<u8>) -> bool {
-        if self.bytes == 0 {
-            return false;
-        }
         self.bytes = self.bytes.saturating_sub(smaller.len() + 1);
         let good = (self.differs)(&smaller);
         if good {
@@ -44,7 +41,7 @@ impl<F: FnMut(&[u8]) -> bool> Shrinker<F> {
         let mut size = self.best.len().div_ceil(2);
         while size > 0 {
             let mut at = 0;
-            while at + size <= self.best.len() {
+            while self.bytes > 0 && at + size <= self.best.len() {
                 let rest = [&self.best[..at], &self.best[at + size..]].concat();
                 if !self.try_out(rest) {
                     at += size;
@@ -58,6 +55,9 @@ impl<F: FnMut(&[u8]) -> bool> Shrinker<F> {
     fn lower_bytes(&mut self) {
         for i in 0..self.best.len() {
             let byte = self.best[i];
+            if self.bytes == 0 {
+                return;
+            }
             for lower in [0, 1, byte / 2, byte.saturating_sub(1)] {
                 let mut copy = self.best.clone();
                 copy[i] = lower;
