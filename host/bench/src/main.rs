@@ -1,0 +1,180 @@
+//! Time of the proved library beside the original Rust on the same bytes, both release, turn by turn in one run: the best of several rounds.
+//!
+//! The library is lent buffers of the message's own size, and of 64 KiB (or the message's size where that is more), which it clears behind the message.
+mod payloads;
+mod session;
+
+use fjord_gateway::ffi;
+use payloads::Sample;
+use std::hint::black_box;
+use std::time::{Duration, Instant};
+
+/// How long a round of one side takes at least.
+const ROUND: Duration = Duration::from_millis(4);
+const ROUNDS: usize = 15;
+
+/// Nanoseconds a call in one round of `turns`.
+fn round(f: &mut dyn FnMut(), turns: u32) -> f64 {
+    let start = Instant::now();
+    for _ in 0..turns {
+        f();
+    }
+    start.elapsed().as_nanos() as f64 / f64::from(turns)
+}
+
+/// Turns that take about a round.
+fn turns(f: &mut dyn FnMut()) -> u32 {
+    let mut n = 1;
+    loop {
+        let start = Instant::now();
+        for _ in 0..n {
+            f();
+        }
+        if start.elapsed() >= ROUND || n > 1 << 24 {
+            return n;
+        }
+        n *= 2;
+    }
+}
+
+/// The best round of each side, turn by turn, so that a slower moment of the machine meets all.
+pub fn best(sides: &mut [&mut dyn FnMut()]) -> Vec<f64> {
+    let counts: Vec<u32> = sides.iter_mut().map(|f| turns(f)).collect();
+    let mut least = vec![f64::MAX; sides.len()];
+    for _ in 0..ROUNDS {
+        for (i, f) in sides.iter_mut().enumerate() {
+            least[i] = least[i].min(round(f, counts[i]));
+        }
+    }
+    least
+}
+
+pub fn row(what: &str, times: &[f64]) {
+    let [rust, own, large] = times else { panic!("three sides") };
+    println!("| {what} | {rust:.0} | {own:.0} | {large:.0} | {:.2} | {:.2} |", own / rust, large / rust);
+}
+
+/// The three buffers, at the message's size or larger.
+struct Lent {
+    text: Vec<u8>,
+    rows: Vec<u64>,
+    nodes: Vec<u64>,
+}
+
+impl Lent {
+    fn new(text: usize, rows: usize, nodes: usize) -> Self {
+        Lent { text: vec![0; text], rows: vec![0; rows], nodes: vec![0; nodes] }
+    }
+
+    /// The least that the message fits, by what the library asks for.
+    fn exact(entry: u64, payload: &[u8]) -> Self {
+        let mut lent = Lent::new(0, 0, 0);
+        loop {
+            let answer = lent.decode(entry, payload);
+            match (answer[0], answer[1]) {
+                (0, _) => return lent,
+                (16, 1) => lent.text.resize(answer[2] as usize, 0),
+                (16, 2) => lent.rows.resize(answer[2] as usize, 0),
+                (16, 3) => lent.nodes.resize(answer[2] as usize, 0),
+                _ => panic!("a sample is a message: {answer:?}"),
+            }
+        }
+    }
+
+    /// 64 KiB each, or the message's size.
+    fn large(&self) -> Self {
+        Lent::new(self.text.len().max(65536), self.rows.len().max(8192), self.nodes.len().max(8192))
+    }
+
+    fn decode(&mut self, entry: u64, payload: &[u8]) -> ffi::Answer {
+        let mut answer = [0; 16];
+        // SAFETY: each pointer comes with its length.
+        unsafe {
+            ffi::fjord_decode(
+                entry,
+                payload.as_ptr(),
+                payload.len(),
+                self.text.as_mut_ptr(),
+                self.text.len(),
+                self.rows.as_mut_ptr(),
+                self.rows.len(),
+                self.nodes.as_mut_ptr(),
+                self.nodes.len(),
+                &mut answer,
+            )
+        };
+        answer
+    }
+
+    fn encode(&self, number: u64, fields: &[u64; 6], out: &mut [u8]) -> u64 {
+        let mut answer = [0; 16];
+        // SAFETY: each pointer comes with its length.
+        unsafe {
+            ffi::fjord_encode(
+                number,
+                fields,
+                self.text.as_ptr(),
+                self.text.len(),
+                self.rows.as_ptr(),
+                self.rows.len(),
+                self.nodes.as_ptr(),
+                self.nodes.len(),
+                out.as_mut_ptr(),
+                out.len(),
+                &mut answer,
+            )
+        }
+    }
+}
+
+fn decoding(samples: &[Sample]) {
+    println!("\n| decode | Rust ns | at the message's size | at 64 KiB | ratio | ratio at 64 KiB |\n|---|---|---|---|---|---|");
+    for s in samples {
+        let mut own = Lent::exact(s.number, &s.payload);
+        let mut large = own.large();
+        let times = best(&mut [
+            &mut || (s.decode)(black_box(&s.payload)),
+            &mut || {
+                black_box(own.decode(s.number, black_box(&s.payload)));
+            },
+            &mut || {
+                black_box(large.decode(s.number, black_box(&s.payload)));
+            },
+        ]);
+        row(&format!("{}, {} bytes", s.name, s.payload.len()), &times);
+    }
+}
+
+fn encoding(samples: &[Sample]) {
+    println!("\n| encode | Rust ns | at the message's size | at 64 KiB | ratio | ratio at 64 KiB |\n|---|---|---|---|---|---|");
+    for s in samples {
+        let mut own = Lent::exact(s.number, &s.payload);
+        let answer = own.decode(s.number, &s.payload);
+        let fields: [u64; 6] = answer[8..14].try_into().expect("six fields");
+        let mut out = vec![0; s.payload.len()];
+        let mut large = vec![0; s.payload.len().max(65536)];
+        assert_eq!(own.encode(s.number, &fields, &mut out), 0);
+        assert_eq!(out, s.payload, "{}", s.name);
+        let encode = (s.encode)(&s.payload);
+        assert_eq!(encode(), s.payload, "{}", s.name);
+        let times = best(&mut [
+            &mut || {
+                black_box(encode());
+            },
+            &mut || {
+                black_box(own.encode(s.number, black_box(&fields), &mut out));
+            },
+            &mut || {
+                black_box(own.encode(s.number, black_box(&fields), &mut large));
+            },
+        ]);
+        row(&format!("{}, {} bytes", s.name, s.payload.len()), &times);
+    }
+}
+
+fn main() {
+    let samples = payloads::samples();
+    decoding(&samples);
+    encoding(&samples);
+    session::receiving(&samples);
+}
