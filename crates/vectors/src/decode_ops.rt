@@ -42,7 +42,13 @@ fn show_message(r: Answer, answer: &mut [u8]) -> Writer {
     }
 }
 
-fn show_memory(w: Writer, text: &[u8], rows: &[u64], nodes: &[u64], answer: &mut [u8]) -> Outcome {
+pub(crate) fn show_memory(
+    w: Writer,
+    text: &[u8],
+    rows: &[u64],
+    nodes: &[u64],
+    answer: &mut [u8],
+) -> Outcome {
     let w = w.word(answer, b"text").hex(answer, text);
     let w = w.word(answer, b"rows").numbers(answer, rows);
     Outcome::Answered(w.word(answer, b"nodes").numbers(answer, nodes))

@@ -5,6 +5,7 @@
 use crate::answer::Outcome;
 use crate::fields;
 use crate::fields::MaybeMessage;
+use crate::frame_ops;
 use crate::memory;
 use crate::parts::first_numbers;
 use crate::parts::front;
@@ -100,7 +101,7 @@ fn encode(request: &[u8], bytes: &mut [u8], out: &mut [u8], answer: &mut [u8]) -
     )
 }
 
-// Answers a request of these; `Unknown` where its operation is none of them.
+// Answers a request of these, and hands any other to the operations on frames.
 pub(crate) fn perform(
     request: &[u8],
     bytes: &mut [u8],
@@ -110,6 +111,6 @@ pub(crate) fn perform(
     match words::place_of(words::name(request), b"encode_desc encode") {
         0 => encode_desc(request, bytes, out, answer),
         1 => encode(request, bytes, out, answer),
-        _ => Outcome::Unknown,
+        _ => frame_ops::perform(request, bytes, out, answer),
     }
 }

@@ -99,7 +99,7 @@ pub(crate) fn byte(n: u64) -> u8 {
 }
 
 // The number in 32 bits; one that is too great becomes the greatest, and the bytes then differ from recorded ones.
-fn narrow(n: u64) -> u32 {
+pub(crate) fn narrow(n: u64) -> u32 {
     if n < 0x1_0000_0000 {
         n as u32
     } else {

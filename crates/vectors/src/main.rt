@@ -6,7 +6,9 @@ mod answer;
 mod decode_ops;
 mod encode_ops;
 mod fields;
+mod frame_ops;
 mod lines;
+mod list_ops;
 mod memory;
 mod parts;
 mod replay;
@@ -102,4 +104,7 @@ fn main() {
     replay_file(b"varint.txt");
     replay_file(b"desc.txt");
     replay_file(b"messages.txt");
+    replay_file(b"frame.txt");
+    replay_file(b"lister.txt");
+    replay_file(b"oracle.txt");
 }
