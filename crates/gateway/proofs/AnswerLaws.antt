@@ -19,7 +19,7 @@ abbrev messageTold : List ℕ → Message
 messageTold a = messageIn (at a 7) (six (at a 8) (at a 9) (at a 10) (at a 11) (at a 12) (at a 13))
 
 -- six fields are read and no more
-abbrev firstSix : List ℕ → List ℕ
+abbrev pub firstSix : List ℕ → List ℕ
 firstSix f = six (at f 0) (at f 1) (at f 2) (at f 3) (at f 4) (at f 5)
 
 reply-six : (op : ControlOp) (f : List ℕ) → replyIn op (firstSix f) ≡ replyIn op f

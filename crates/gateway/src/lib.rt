@@ -14,10 +14,10 @@ ghost use Rattle.varint.specs.declared.error.Fault.the-variants.{RowCount, Numb
 ghost use Rattle.protocol.specs.Rows.{widthOf};
 ghost use Rattle.gateway.specs.Entries.{named, faultOf, encodeNumbers, decodeCall, decodeDescCall, encodeCall, encodeDescCall, getCall, putCall};
 use answers::of_desc;
-use answers::of_message;
 use answers::of_number;
 use answers::of_written;
 use answers::tell;
+use answers::tell_message;
 use desc::decode_desc;
 use desc::write::encode_desc;
 use numbers::MaybeMessage;
@@ -55,7 +55,7 @@ pub extern "C" fn fjord_decode(
 {
     let number = named(entry);
     let read = decode(number, payload, text, rows, nodes);
-    tell(of_message(number as u64, read), answer)
+    tell_message(number as u64, read, answer)
 }
 
 #[no_mangle]

@@ -9,14 +9,11 @@ named-requires c κs = search needs
 decode-requires : tie.Need-decode-requires
 decode-requires c κs = search needs
 
-cast-of-message : tie.Need-cast-of-message
-cast-of-message c = search needs
+cast-tell-message : tie.Need-cast-tell-message
+cast-tell-message c = search needs
 
-of-message-requires : tie.Need-of-message-requires
-of-message-requires c κs = search needs
-
-tell-requires : tie.Need-tell-requires
-tell-requires c κs = search needs
+tell-message-requires : tie.Need-tell-message-requires
+tell-message-requires c κs = search needs
 
 same-length : tie.Need-same-length
 same-length c = search needs
@@ -28,7 +25,7 @@ same-length-3 : tie.Need-same-length-3
 same-length-3 c = search needs
 
 returns : tie.Need-returns
-returns c = message-told (c .tell .ensures) _ _ _ _ _ (c .before .before .before .before .before .before .before .before .before .before .before .before .before .named .ensures) (c .before .before .before .before .before .before .before .before .before .decode .ensures) (c .before .before .of-message .ensures)
+returns c = message-told _ _ _ _ _ (c .tell-message .ensures) (c .before .before .before .before .before .before .before .before .before .before .before .before .named .ensures) (c .before .before .before .before .before .before .before .before .decode .ensures)
 
 pub fjord-decode-spec : {M : Type 1} → statement M
 fjord-decode-spec =
@@ -36,9 +33,8 @@ fjord-decode-spec =
     (tie.spec
     named-requires
     decode-requires
-    cast-of-message
-    of-message-requires
-    tell-requires
+    cast-tell-message
+    tell-message-requires
     same-length
     same-length-2
     same-length-3
