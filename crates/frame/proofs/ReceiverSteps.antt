@@ -5,8 +5,8 @@ use mathlib.Core.List.{List, [], _++_, append-nil}
 use Prim.Native.Nat.{ℕ, zero, suc, _+_, _-_, _≤_, _<_, min}
 use native.Mathlib.Nat.{sub-zero, zero-sub, suc-sub-suc}
 use native.Mathlib.Omega.{arith}
-use borrow.Author.Tests.{lt-ltb, le-ltb, ltb-true, ltb-false, leb-false, eq-eqb, ne-eqb}
-use lib.Dec.{ltb, leb}
+use borrow.Author.Tests.{lt-ltb, le-ltb, lt-leb, ltb-true, ltb-false, leb-false, eq-eqb, ne-eqb, eqb-true}
+use lib.Dec.{ltb, leb, eqb}
 use lib.ListN.{length, take, drop, getD, replicate, length-append, length-take, length-drop, length-replicate, drop-of-length-le}
 use lib.Seq.{sets, sets-eq, take-at, drop-append-add, take-all, length-take-le, length-sets}
 use Rattle.varint.specs.Choice.{pick}
@@ -29,7 +29,8 @@ use Rattle.frame.specs.Frames.{lengthOf, headerOf, decodeHeader}
 use Rattle.frame.specs.Worlds.{World, editor, receiverOf, running, pad}
 use Rattle.frame.specs.Reading.{Verdict, refuse, gather, judge, decoded}
 use Rattle.frame.specs.declared.receiver.Opening.the-variants.{Accepted}
-use Rattle.frame.specs.Offering.{Opens, opens, stopOf, setupOf, advanced, headerHeld, overfull, impossible, handed, loads, settles, takes, offering, worldOf, offerOf}
+use Rattle.frame.specs.Offering.{Opens, opens, stopOf, setupOf, advanced, headerHeld, overfull, impossible, handed, loads, settles, takes, offering, heldAfter, lengthens, worldOf, offerOf}
+use Rattle.frame.proofs.Firsts.{gather-fits}
 
 -- ---- nine header bytes
 
@@ -279,3 +280,74 @@ module _ (r : Receiver) (piece hold text rows nodes : List ℕ) where
         by-count : (b : Bool) → ltb (r .«header_len») 9 ≡ b → r .«payload_len» ≤ n
         by-count true e = omega (arith, room-before (ltb-true _ _ e))
         by-count false e = room-nine n (ltb-false _ _ e) (rw h at j)
+
+-- ---- a piece that only lengthens a payload
+
+picked : (b : Bool) (y : ℕ) → (pick b y 0 ≡ 0 → ⊥) → b ≡ true
+picked true y h = refl
+picked false y h = absurd (h refl)
+
+-- the frame still lacks some of its n bytes
+lacking : (v : Verdict) (have len : ℕ) → (heldAfter v have len ≡ 0 → ⊥) → (n : ℕ) × (v ≡ gather n) × (have + len < n) × (heldAfter v have len ≡ have + len)
+lacking (refuse e) have len h = absurd (h refl)
+lacking (gather n) have len h =
+    let t : ltb (have + len) n ≡ true = picked (ltb (have + len) n) (have + len) h in
+    (n, refl, ltb-true (have + len) n t, rw t)
+
+module _ (r : Receiver) (piece hold text rows nodes : List ℕ) where
+  abbrev After : ℕ
+  After = heldAfter (judge editor (r .«hold_len») (r .header)) (r .«payload_len») (length piece)
+
+  -- what the tests found
+  abbrev Passed : ℕ → Type 0
+  Passed x = (length hold ≡ r .«hold_len») × (r .stop ≡ 0) × (r .«header_len» ≡ 9) × (x ≡ After)
+
+  passed : (x : ℕ) → x ≡ lengthens editor r (length hold) (length piece) → (x ≡ 0 → ⊥) → Passed x
+  unfolding lengthens
+  passed x e z =
+      let f : lengthens editor r (length hold) (length piece) ≡ 0 → ⊥ = λ k. z (e ∙ k) in
+      let a : eqb (length hold) (r .«hold_len») ≡ true = picked (eqb (length hold) (r .«hold_len»)) (pick (eqb (r .stop) 0) (pick (eqb (r .«header_len») 9) After 0) 0) f in
+      let b : eqb (r .stop) 0 ≡ true = picked (eqb (r .stop) 0) (pick (eqb (r .«header_len») 9) After 0) (λ k. f (rw a k)) in
+      let c : eqb (r .«header_len») 9 ≡ true = picked (eqb (r .«header_len») 9) After (λ k. f (rw (a, b) k)) in
+      (eqb-true _ _ a, eqb-true _ _ b, eqb-true _ _ c, e ∙ rw (a, b, c))
+
+  module _ (nine : length (r .header) ≡ 9) (same : length hold ≡ r .«hold_len») (runs : r .stop ≡ 0) (whole : r .«header_len» ≡ 9)
+      (n : ℕ) (judged : judge editor (r .«hold_len») (r .header) ≡ gather n) (short : r .«payload_len» + length piece < n) where
+    counts-hold : impossible editor r ≡ false
+    counts-hold = impossible-nine r nine (gather n) (omega arith) (omega arith) judged ∙ lt-leb n (r .«payload_len») (omega arith)
+
+    header-is : r .header ≡ pad 9 (headerHeld r ++ take (9 - r .«header_len») piece)
+    unfolding pad
+    header-is =
+        let k : 9 - r .«header_len» ≡ 0 = omega arith in
+        let t : take (r .«header_len») (r .header) ≡ r .header = take-all (r .«header_len») (r .header) (omega arith) in
+        let z : 9 - length (r .header) ≡ 0 = omega arith in
+        rw (k, t, append-nil, z, append-nil)
+
+    stored-is : part piece 0 (length piece) ≡ part piece (9 - r .«header_len») (n - r .«payload_len»)
+    unfolding part
+    stored-is =
+        let k : 9 - r .«header_len» ≡ 0 = omega arith in
+        rw (k, take-all (length piece) piece (omega arith), take-all (n - r .«payload_len») piece (omega arith))
+
+    grown : (hold′ : List ℕ) → n ≤ length hold → hold′ ≡ sets hold (r .«payload_len») (part piece 0 (length piece))
+        → offerOf (record { receiver = advanced r (r .header) (r .«header_len») (r .«payload_len» + length piece); used = length piece; outcome = More }) hold′ text rows nodes
+        ≡ offering editor (worldOf r hold text rows nodes) piece
+    grown hold′ fits stored =
+        let u : 9 - r .«header_len» ≡ 0 = omega arith in
+        let m : length piece - (9 - r .«header_len») ≡ length piece = omega arith in
+        loaded-short r (r .header) (9 - r .«header_len») n piece hold hold′ text rows nodes (omega arith) fits (omega arith) (stored ∙ ap (sets hold (r .«payload_len»)) stored-is)
+        (advanced r (r .header) (r .«header_len») (r .«payload_len» + length piece)) (omega arith) (rw (m, whole))
+        ∙ gathered r (r .header) (9 - r .«header_len») n (drop (9 - r .«header_len») piece) hold text rows nodes judged
+        ∙ header-there r piece hold text rows nodes same runs counts-hold nine (r .header) (omega arith) header-is
+
+  -- one count of the receiver is all that such an offer alters
+  pub offer-lengthened : (x : ℕ) (hold′ : List ℕ) → length (r .header) ≡ 9 → x ≡ lengthens editor r (length hold) (length piece) → (x ≡ 0 → ⊥)
+      → hold′ ≡ sets hold (r .«payload_len») (part piece 0 (length piece))
+      → offerOf (record { receiver = advanced r (r .header) (r .«header_len») x; used = length piece; outcome = More }) hold′ text rows nodes
+      ≡ offering editor (worldOf r hold text rows nodes) piece
+  offer-lengthened x hold′ nine e z stored =
+      let (same, runs, whole, is) = passed x e z in
+      let (n, judged, short, sum) = lacking (judge editor (r .«hold_len») (r .header)) (r .«payload_len») (length piece) (λ k. z (is ∙ k)) in
+      let s : x ≡ r .«payload_len» + length piece = is ∙ sum in
+      rw s (grown nine same runs whole n judged short hold′ (omega (arith, gather-fits editor (r .«hold_len») (r .header) n judged)) stored)

@@ -127,6 +127,20 @@ module _ (l : Limits) where
       (declined (stopOf (w .receiver)) w))
       (declined (codeOf BadReceiver) w)
 
+-- ---- a piece that only lengthens a payload
+
+-- the payload bytes that are held after `len` more, where the frame still lacks some; else 0
+abbrev pub heldAfter : Verdict → (payloadLen len : ℕ) → ℕ
+heldAfter (refuse e) have len = 0
+heldAfter (gather n) have len = pick (ltb (have + len) n) (have + len) 0
+
+-- The same of a receiver that is offered a piece of `len` bytes over a hold of `room`: 0 where the piece starts or ends a frame, or is refused.
+unfoldable pub lengthens : Limits → Receiver → (room len : ℕ) → ℕ
+lengthens l r room len =
+    pick (eqb room (r .«hold_len»))
+    (pick (eqb (r .stop) 0) (pick (eqb (r .«header_len») 9) (heldAfter (judge l (r .«hold_len») (r .header)) (r .«payload_len») len) 0) 0)
+    0
+
 -- ---- the memory of a call, as the definitions have it
 
 abbrev pub worldOf : Receiver → (hold text rows nodes : List ℕ) → World

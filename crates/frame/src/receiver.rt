@@ -1,11 +1,13 @@
 // The receiver: takes a run of bytes in pieces, as the network cut them, and hands out each frame with its message.
 ghost use mathlib.Core.Path.{_≡_};
 ghost use mathlib.Core.List.{_++_};
-ghost use Prim.Native.Nat.{ℕ, _-_, _≤_, _<_};
+ghost use Prim.Native.Nat.{ℕ, _+_, _-_, _≤_, _<_};
+ghost use lib.Dec.{ltb};
 ghost use lib.ListN.{length, take, drop, getD, replicate};
+ghost use Rattle.varint.specs.Choice.{pick};
 ghost use Rattle.frame.specs.Worlds.{editor, receiverOf, running, pad};
 ghost use Rattle.frame.specs.Reading.{gather, decoded, judge as judging};
-ghost use Rattle.frame.specs.Offering.{opens, advanced, headerHeld, impossible as impossibleFor, setupOf, handed, loads, settles, offering, worldOf, offerOf};
+ghost use Rattle.frame.specs.Offering.{opens, advanced, headerHeld, impossible as impossibleFor, setupOf, handed, loads, settles, offering, lengthens, worldOf, offerOf};
 ghost use Rattle.frame.specs.Frames.{headerOf};
 ghost use Rattle.frame.specs.Judging.{Judges};
 ghost use Rattle.frame.specs.declared.receiver.Outcome.the-variants.{Refused as Declined};
@@ -153,6 +155,40 @@ fn impossible(receiver: Receiver) -> bool
     match judge(header, receiver.hold_len) {
         Verdict::Refuse(_) => true,
         Verdict::Gather(h) => h.length as usize <= receiver.payload_len,
+    }
+}
+
+// Two lengths together where they are below `end`, else 0.
+fn sum_below(have: usize, len: usize, end: usize) -> usize
+    ensures { λ r. ⌜ r ≡ pick (ltb (have + len) end) (have + len) 0 ⌝ }
+{
+    if end <= have {
+        return 0;
+    }
+    if end - have <= len {
+        return 0;
+    }
+    have + len
+}
+
+// The payload bytes that are held once a piece of `len` bytes is, where it neither starts nor ends a frame; else 0. A host's call tests
+// this first: such a piece alters one count of the receiver, which then need not be carried in and out by value.
+pub fn lengthened(receiver: Receiver, room: usize, len: usize) -> usize
+    ensures { λ r. ⌜ r ≡ lengthens editor receiver room len ⌝ }
+{
+    if room != receiver.hold_len {
+        return 0;
+    }
+    if receiver.stop != 0 {
+        return 0;
+    }
+    if receiver.header_len != Frame::HEADER_LEN {
+        return 0;
+    }
+    let header = receiver.header;
+    match judge(header, receiver.hold_len) {
+        Verdict::Refuse(_) => 0,
+        Verdict::Gather(h) => sum_below(receiver.payload_len, len, h.length as usize),
     }
 }
 
