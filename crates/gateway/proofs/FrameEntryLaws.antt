@@ -2,9 +2,12 @@
 use mathlib.Core.Path.{_≡_}
 use mathlib.Core.List.{List}
 use Prim.Native.Nat.{ℕ}
+use lib.ListN.{length}
+use lib.Seq.{sets}
+use Rattle.varint.specs.Stores.{part}
 use Rattle.varint.specs.declared.Written.{Written}
 use Rattle.frame.specs.Frames.{decodeHeader, decodeFrame, encodeFrame}
-use Rattle.frame.specs.Offering.{opens, offering, worldOf, offerOf}
+use Rattle.frame.specs.Offering.{opens, advanced, offering, lengthens, worldOf, offerOf}
 use Rattle.frame.specs.Slots.{putSlot}
 use Rattle.frame.specs.Worlds.{editor}
 use Rattle.frame.specs.declared.FrameAnswer.{FrameAnswer}
@@ -13,8 +16,9 @@ use Rattle.frame.specs.declared.receiver.Offered.{Offered}
 use Rattle.frame.specs.declared.receiver.Opened.{Opened}
 use Rattle.frame.specs.declared.receiver.Receiver.{Receiver}
 use Rattle.frame.specs.declared.slot.SlotAnswer.{SlotAnswer}
-use Rattle.gateway.specs.Answers.{ofWritten}
-use Rattle.gateway.specs.FrameEntries.{ofHeader, ofFrame, ofSlot, ofOpening, resultOf, ofOutcome, encodeFrameCall, headerCall, frameCall, slotCall, openCall, offerCall, OpensTo, OffersTo}
+use Rattle.frame.proofs.ReceiverSteps.{offer-lengthened}
+use Rattle.gateway.specs.Answers.{noFields, accepted, ofWritten}
+use Rattle.gateway.specs.FrameEntries.{ofHeader, ofFrame, ofSlot, ofOpening, resultOf, ofOutcome, encodeFrameCall, headerCall, frameCall, slotCall, openCall, offerCall, OpensTo, OffersTo, Extends}
 use Rattle.gateway.specs.declared.answers.Parts.{Parts}
 use Rattle.gateway.proofs.EntryLaws.{Tells, sent-told}
 
@@ -50,3 +54,15 @@ module _ {p : Parts} {x : ℕ} {y : List ℕ} (h : Tells p x y) where
       → OffersTo r piece hold text rows nodes answer z (o .receiver) hold′ text′ rows′ nodes′ y
   unfolding offerCall
   offer-told r piece hold text rows nodes answer f g k = record { is = rw (← f, h .1, g, k) }
+
+  pub extended : (have : ℕ) (piece hold : List ℕ) {hold′ : List ℕ} → p ≡ accepted (length piece) 0 noFields → hold′ ≡ sets hold have (part piece 0 (length piece))
+      → Extends have piece hold x hold′ y
+  extended have piece hold g s = record { none = rw (h .0, g); stored = s; told = rw (h .1, g) }
+
+-- a piece that only lengthens a payload: one count of the receiver is altered
+pub offer-extended : (r : Receiver) (piece hold text rows nodes answer : List ℕ) (n : ℕ) {x : ℕ} {hold′ answer′ : List ℕ} → length (r .header) ≡ 9
+    → n ≡ lengthens editor r (length hold) (length piece) → (n ≡ 0 → ⊥) → Extends (r .«payload_len») piece hold x hold′ answer′
+    → OffersTo r piece hold text rows nodes answer x (advanced r (r .header) (r .«header_len») n) hold′ text rows nodes answer′
+unfolding offerCall
+offer-extended r piece hold text rows nodes answer n nine e z s =
+    record { is = rw (← offer-lengthened r piece hold text rows nodes n _ nine e z (s .stored), s .none, s .told) }

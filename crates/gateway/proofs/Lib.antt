@@ -4,3 +4,4 @@ pub mod FieldLaws
 pub mod FrameEntryLaws
 pub mod NumberLaws
 pub mod Ranges
+pub mod WalkSteps

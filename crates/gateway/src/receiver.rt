@@ -1,6 +1,6 @@
 // The entry points of the receiver. The host lends its receiver: each is a thin wrapper over a step that takes it by value and gives it back.
 ghost use mathlib.Core.Path.{_≡_};
-ghost use Rattle.gateway.specs.FrameEntries.{ofOpening, resultOf, ofOutcome, OpensTo, OffersTo};
+ghost use Rattle.gateway.specs.FrameEntries.{ofOpening, resultOf, ofOutcome, OpensTo, OffersTo, Extends};
 use crate::answers::Parts;
 use crate::answers::accepted;
 use crate::answers::given;
@@ -13,8 +13,10 @@ use frame::receiver::Opening;
 use frame::receiver::Outcome;
 use frame::receiver::Receiver;
 use frame::receiver::entry_of;
+use frame::receiver::lengthened;
 use frame::receiver::offer;
 use frame::receiver::open;
+use varint::store::copy_bytes;
 
 // The receiver after a step, and the step's result.
 pub struct Stepped {
@@ -100,6 +102,15 @@ pub fn offer_step(
     }
 }
 
+// Puts a piece behind the payload that is held, and tells that more is wanted.
+fn extend(have: usize, piece: &[u8], hold: &mut [u8], answer: &mut [u64; 16]) -> u64
+    ensures { λ x. ⌜ Extends have (now (piece .entry)) (now (hold .entry)) x (now (hold .exit)) (now (answer .exit)) ⌝ }
+{
+    let used = piece.len();
+    copy_bytes(piece, 0, used, hold, have);
+    tell(accepted(used as u64, 0, [0; 6]), answer)
+}
+
 #[no_mangle]
 pub extern "C" fn fjord_open(
     receiver: &mut Receiver,
@@ -126,6 +137,12 @@ pub extern "C" fn fjord_offer(
 ) -> u64
     ensures { λ x. ⌜ OffersTo (now (receiver .entry)) (now (piece .entry)) (now (hold .entry)) (now (text .entry)) (now (rows .entry)) (now (nodes .entry)) (now (answer .entry)) x (now (receiver .exit)) (now (hold .exit)) (now (text .exit)) (now (rows .exit)) (now (nodes .exit)) (now (answer .exit)) ⌝ }
 {
+    let gathered = lengthened(*receiver, hold.len(), piece.len());
+    if gathered != 0 {
+        let have = receiver.payload_len;
+        receiver.payload_len = gathered;
+        return extend(have, piece, hold, answer);
+    }
     let o = offer_step(*receiver, piece, hold, text, rows, nodes, answer);
     *receiver = o.receiver;
     o.code
