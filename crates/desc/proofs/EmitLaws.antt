@@ -1,10 +1,11 @@
 -- One turn of the recursive writer over a node's children, and its ways out.
-use mathlib.Core.Bool.{Bool, true, false}
+use mathlib.Core.Bool.{Bool, true, false, _||_}
 use mathlib.Core.Path.{_≡_, refl, sym, ap, _∙_}
 use mathlib.Core.List.{List}
-use Prim.Native.Nat.{ℕ, zero, suc, _+_, _-_, _≤_, _<_}
+use Prim.Native.Nat.{ℕ, zero, suc, _+_, _-_, _/_, _≤_, _<_}
 use native.Mathlib.Omega.{arith}
 use lib.Dec.{eqb}
+use lib.ListN.{length}
 use borrow.Author.Tests.{eq-eqb, ne-eqb}
 use Rattle.varint.specs.Choice.{pick}
 use Rattle.varint.specs.Formats.{Got, got, bad, then}
@@ -16,6 +17,7 @@ use Rattle.desc.specs.Emitting.{Pen, putNumber, putWhere, putLabel, putT
 use Rattle.desc.specs.Layout.{Span}
 use Rattle.desc.specs.Table.{cell, nodeFits, isBranch, kidsAt, closedAt, table}
 use Rattle.desc.specs.Trees.{Tree, leaf, Kids, more, kidCount}
+use Rattle.desc.proofs.TableCells.{fits-not}
 use Rattle.desc.proofs.TableKids.{kid-count}
 
 -- what writing the children that are left does to the buffer
@@ -66,6 +68,19 @@ module _ (r : ℕ → ℕ → Got (Tree Span)) (tx nd : List ℕ) (tag count i m
       (first-wrong tx tag (cell nd m 1, cell nd m 2) (cell nd m 3) s (r m tag) (kidsAt r nd tag (count - (i + 1)))
       (ap (λ (x : Emitted). told x o) (sym h) ∙ is ∙ ap (emission tx (r m tag)) label))
 
+-- a child that is not there
+table-outside : (d : ℕ) (nd : List ℕ) (m tag : ℕ) → length nd / 7 ≤ m → table d nd m tag ≡ bad (BadMessage Layout)
+unfolding table
+table-outside zero nd m tag h = refl
+table-outside (suc d) nd m tag h = rw (← fits-not nd m tag h)
+
+pub turn-outside : (d : ℕ) (tx nd : List ℕ) (tag count i m : ℕ) (s : Pen) → i < count → length nd / 7 ≤ m
+    → kidsEmission tx tag (kidsAt (table d nd) nd tag (count - i) m) s ≡ wrong
+unfolding kidsAt kidsEmission
+turn-outside d tx nd tag count i m s less h =
+    let e : count - i ≡ suc (count - (i + 1)) = omega arith in
+    rw (e, table-outside d nd m tag h)
+
 deeper : (d : ℕ) (nd : List ℕ) (n parent : ℕ) → (d ≡ 0 → ⊥)
     → table d nd n parent
     ≡ pick (nodeFits nd n parent)
@@ -104,14 +119,16 @@ module _ (nd : List ℕ) (d n parent : ℕ) (z : d ≡ 0 → ⊥) {fits : Bool} 
   node-unfit : fits ≡ false → table d nd n parent ≡ bad (BadMessage Layout)
   node-unfit f = rw (deeper d nd n parent z, ← test, f)
 
-  module _ (f : fits ≡ true) {parts : Bool} (test₂ : parts ≡ isBranch nd n) where
+  module _ (f : fits ≡ true) {parts : Bool} (test₂ : parts ≡ (eqb (cell nd n 0) 3 || eqb (cell nd n 0) 4)) where
     pub node-leaf : parts ≡ false → table d nd n parent ≡ got (leaf (cell nd n 0) (cell nd n 4)) (n + 1)
+    unfolding isBranch
     node-leaf b = rw (deeper d nd n parent z, ← test, f, ← test₂, b)
 
     -- a type with parts: what is left is to read them, and to compare the end
-    pub node-branch : (tag count : ℕ) → parts ≡ true → tag ≡ cell nd n 0 → count ≡ cell nd n 5
-        → table d nd n parent ≡ closedAt tag (cell nd n 6) (kidsAt (table (d - 1) nd) nd tag count (n + 1))
-    node-branch tag count b e₀ e₅ = rw (deeper d nd n parent z, ← test, f, ← test₂, b, ← e₀, ← e₅)
+    pub node-branch : parts ≡ true
+        → table d nd n parent ≡ closedAt (cell nd n 0) (cell nd n 6) (kidsAt (table (d - 1) nd) nd (cell nd n 0) (cell nd n 5) (n + 1))
+    unfolding isBranch
+    node-branch b = rw (deeper d nd n parent z, ← test, f, ← test₂, b)
 
 module _ (tx nd : List ℕ) (d n parent : ℕ) (s : Pen) (o : List ℕ) where
   pub emit-deep : d ≡ 0 → told Wrong o ≡ emission tx (table d nd n parent) s
@@ -122,10 +139,10 @@ module _ (tx nd : List ℕ) (d n parent : ℕ) (s : Pen) (o : List ℕ) where
   unfolding told emission
   emit-unfit z test f = rw (node-unfit nd d n parent z test f)
 
-  pub emit-leaf : (tag p place : ℕ) → table d nd n parent ≡ got (leaf (cell nd n 0) (cell nd n 4)) (n + 1) → tag ≡ cell nd n 0 → p ≡ cell nd n 4
+  pub emit-leaf : (tag p place : ℕ) → table d nd n parent ≡ got (leaf tag p) (n + 1)
       → record { out = o; place = place } ≡ putWhere (eqb tag 2) p (putNumber tag s) → told (Done (n + 1) place) o ≡ emission tx (table d nd n parent) s
   unfolding told emission putTree
-  emit-leaf tag p place is e₀ e₄ w = rw (is, ← e₀, ← e₄, ← w)
+  emit-leaf tag p place is w = rw (is, ← w)
 
   module _ (tag count : ℕ) (is : table d nd n parent ≡ closedAt tag (cell nd n 6) (kidsAt (table (d - 1) nd) nd tag count (n + 1))) (s₁ : Pen) where
     abbrev kids : Got (Kids Span)
@@ -135,20 +152,20 @@ module _ (tx nd : List ℕ) (d n parent : ℕ) (s : Pen) (o : List ℕ) where
     unfolding told
     emit-stopped h = rw is (kids-wrong tx tag (cell nd n 6) kids s s₁ h)
 
-    module _ (i m a end : ℕ) (end-is : end ≡ cell nd n 6) (past : count ≤ i)
+    module _ (i m a : ℕ) (past : count ≤ i)
         (inv : kidsEmission tx tag kids s₁ ≡ kidsEmission tx tag (kidsAt (table (d - 1) nd) nd tag (count - i) m) (record { out = o; place = a })) where
       ended : kidsEmission tx tag kids s₁ ≡ done m (record { out = o; place = a })
       unfolding kidsEmission kidsAt putKids
       ended = let e : count - i ≡ 0 = omega arith in inv ∙ rw e
 
-      pub emit-open : (end ≡ m → ⊥) → told Wrong o ≡ emission tx (table d nd n parent) s
+      pub emit-open : (cell nd n 6 ≡ m → ⊥) → told Wrong o ≡ emission tx (table d nd n parent) s
       unfolding told
-      emit-open q = rw (is, ← end-is) (kids-open tx tag end kids m s s₁ (record { out = o; place = a }) ended q)
+      emit-open q = rw is (kids-open tx tag (cell nd n 6) kids m s s₁ (record { out = o; place = a }) ended q)
 
-      pub emit-branch : end ≡ m → s₁ ≡ putWhere true count (putNumber tag s) → told (Done m a) o ≡ emission tx (table d nd n parent) s
+      pub emit-branch : cell nd n 6 ≡ m → s₁ ≡ putWhere true count (putNumber tag s) → told (Done m a) o ≡ emission tx (table d nd n parent) s
       unfolding told putWhere
       emit-branch q w =
-          rw (is, ← end-is)
-          (kids-closed tx tag end count kids m s s₁ (record { out = o; place = a })
+          rw is
+          (kids-closed tx tag (cell nd n 6) count kids m s s₁ (record { out = o; place = a })
           (λ ks e h. kid-count (table (d - 1) nd) nd tag count (n + 1) e ks h)
           ended q w)

@@ -4,9 +4,10 @@ use mathlib.Core.Path.{_≡_, refl, sym, _∙_}
 use mathlib.Core.Logic.{⊎-elim}
 use mathlib.Core.List.{List}
 use Prim.Native.Nat.{ℕ, _+_, _*_, _/_, _≤_, _<_}
-use lib.Dec.{leb}
+use lib.Dec.{leb, eqb}
 use lib.ListN.{length, List·getD-eq-default}
 use borrow.Author.Tests.{lt-ltb, le-ltb}
+use Rattle.varint.specs.Choice.{pick}
 use Rattle.varint.specs.Gathering.{nameHeld, textHeld}
 use Rattle.varint.specs.Utf8.{utf8At}
 use Rattle.varint.specs.declared.error.Fault.the-variants.{Texts}
@@ -29,11 +30,16 @@ module _ (nd : List ℕ) (n parent : ℕ) where
   unfolding nodeFits
   fits-not h = rw (le-ltb n (length nd / 7) h)
 
-  pub fits-parts : n < length nd / 7
-      → (leb (cell nd n 0) 5 && rootName nd n parent && (discriminantFits nd n parent && predicateFits nd n) && (isBranch nd n || leafFits nd n)) ≡ nodeFits nd n parent
-  unfolding nodeFits
-  fits-parts h =
-      rw (lt-ltb n (length nd / 7) h)
+  -- by the tests of its numbers
+  pub fits-parts : {named discriminant predicate parts : Bool} → n < length nd / 7
+      → named ≡ pick (eqb parent 0) (eqb (cell nd n 1) 0 && eqb (cell nd n 2) 0) true
+      → discriminant ≡ pick (eqb parent 4) (leb (cell nd n 3) 0xFFFFFFFF) (eqb (cell nd n 3) 0)
+      → predicate ≡ pick (eqb (cell nd n 0) 2) (leb (cell nd n 4) 0xFFFFFFFF) (eqb (cell nd n 4) 0)
+      → parts ≡ (eqb (cell nd n 0) 3 || eqb (cell nd n 0) 4)
+      → (leb (cell nd n 0) 5 && named && (discriminant && predicate) && (parts || (eqb (cell nd n 5) 0 && eqb (cell nd n 6) (n + 1)))) ≡ nodeFits nd n parent
+  unfolding nodeFits rootName discriminantFits predicateFits isBranch leafFits
+  fits-parts h p q r t =
+      rw (p, q, r, t, lt-ltb n (length nd / 7) h)
       (and-two
       (leb (cell nd n 0) 5 && rootName nd n parent)
       (discriminantFits nd n parent)

@@ -1,11 +1,14 @@
 // Writing descriptors: a node table and its texts back to bytes.
+ghost use mathlib.Core.Bool.{true, _&&_, _||_};
 ghost use mathlib.Core.Path.{_≡_};
-ghost use Prim.Native.Nat.{_+_, _-_, _≤_};
+ghost use Prim.Native.Nat.{_+_, _-_, _/_, _≤_, _<_};
+ghost use lib.Dec.{leb, eqb};
 ghost use lib.ListN.{length};
+ghost use Rattle.varint.specs.Choice.{pick};
 ghost use Rattle.varint.specs.Gathering.{nameHeld};
 ghost use Rattle.varint.specs.Outs.{declared};
-ghost use Rattle.desc.specs.Layout.{startAt, lenAt, discriminantAt};
-ghost use Rattle.desc.specs.Table.{cell, rootName, discriminantFits, predicateFits, isBranch, leafFits, nodeFits, table};
+ghost use Rattle.desc.specs.Layout.{width, startAt, lenAt, discriminantAt};
+ghost use Rattle.desc.specs.Table.{cell, nodeFits, table};
 ghost use Rattle.desc.specs.Emitting.{putNumber, putWhere, putName, putLabel, told, emission, sized, putDesc, verdict, namesFrom};
 ghost use Rattle.desc.specs.Encoding.{encodeDesc};
 use crate::node;
@@ -31,62 +34,64 @@ pub enum Names {
     Refused(Refusal),
 }
 
+// A place of the text: where it starts, and how long it is.
+struct Span {
+    start: u64,
+    len: u64,
+}
+
 // A root's name is 0, 0; a child's is no matter of the layout.
-fn root_name(nodes: &[u64], n: usize, parent: u64) -> bool
-    ensures { λ r. ⌜ r ≡ rootName (now (nodes .entry)) n parent ⌝ }
+fn root_name(parent: u64, start: u64, len: u64) -> bool
+    ensures { λ r. ⌜ r ≡ pick (eqb parent 0) (eqb start 0 && eqb len 0) true ⌝ }
 {
     if parent == 0 {
-        return (read_cell(nodes, n, node::START) == 0) & (read_cell(nodes, n, node::LEN) == 0);
+        return (start == 0) & (len == 0);
     }
     true
 }
 
 // An alternative of a union has a discriminant of 32 bits, and nothing else has one.
-fn discriminant_fits(nodes: &[u64], n: usize, parent: u64) -> bool
-    ensures { λ r. ⌜ r ≡ discriminantFits (now (nodes .entry)) n parent ⌝ }
+fn discriminant_fits(parent: u64, discriminant: u64) -> bool
+    ensures { λ r. ⌜ r ≡ pick (eqb parent 4) (leb discriminant 0xFFFFFFFF) (eqb discriminant 0) ⌝ }
 {
     if parent == 4 {
-        return read_cell(nodes, n, node::DISCRIMINANT) <= 0xFFFF_FFFF;
+        return discriminant <= 0xFFFF_FFFF;
     }
-    read_cell(nodes, n, node::DISCRIMINANT) == 0
+    discriminant == 0
 }
 
 // A fact has a predicate of 32 bits, and nothing else has one.
-fn predicate_fits(nodes: &[u64], n: usize) -> bool
-    ensures { λ r. ⌜ r ≡ predicateFits (now (nodes .entry)) n ⌝ }
+fn predicate_fits(tag: u64, predicate: u64) -> bool
+    ensures { λ r. ⌜ r ≡ pick (eqb tag 2) (leb predicate 0xFFFFFFFF) (eqb predicate 0) ⌝ }
 {
-    if read_cell(nodes, n, node::TAG) == 2 {
-        return read_cell(nodes, n, node::PREDICATE) <= 0xFFFF_FFFF;
+    if tag == 2 {
+        return predicate <= 0xFFFF_FFFF;
     }
-    read_cell(nodes, n, node::PREDICATE) == 0
+    predicate == 0
 }
 
-// Has the type parts? Then its end is told by them.
-fn is_branch(nodes: &[u64], n: usize) -> bool
-    ensures { λ r. ⌜ r ≡ isBranch (now (nodes .entry)) n ⌝ }
+// Has a type with this tag parts? Then its end is told by them.
+fn is_branch(tag: u64) -> bool
+    ensures { λ r. ⌜ r ≡ (eqb tag 3 || eqb tag 4) ⌝ }
 {
-    let tag = read_cell(nodes, n, node::TAG);
     (tag == 3) | (tag == 4)
 }
 
-// A type without parts has no children, and ends behind itself.
-fn leaf_fits(nodes: &[u64], n: usize) -> bool
-    requires { ⌜ n ≤ length (now nodes) ⌝ }
-    ensures { λ r. ⌜ r ≡ leafFits (now (nodes .entry)) n ⌝ }
-{
-    (read_cell(nodes, n, node::COUNT) == 0) & (read_cell(nodes, n, node::END) == (n + 1) as u64)
-}
-
-// Is node `n` there, and laid out as a node may be below a parent with this tag?
+// Is node `n` there, and laid out as a node may be below a parent with this tag? A type without parts has no children, and ends behind itself. The
+// node's numbers are read without a test of each, since one test says that all seven are there.
 fn node_fits(nodes: &[u64], n: usize, parent: u64) -> bool
     ensures { λ r. ⌜ r ≡ nodeFits (now (nodes .entry)) n parent ⌝ }
 {
     if nodes.len() / node::WIDTH <= n {
         return false;
     }
-    let named = (read_cell(nodes, n, node::TAG) <= 5) & root_name(nodes, n, parent);
-    let valued = discriminant_fits(nodes, n, parent) & predicate_fits(nodes, n);
-    named & valued & (is_branch(nodes, n) | leaf_fits(nodes, n))
+    let k = n * node::WIDTH;
+    let tag = nodes[k + node::TAG];
+    let named = root_name(parent, nodes[k + node::START], nodes[k + node::LEN]);
+    let valued = discriminant_fits(parent, nodes[k + node::DISCRIMINANT])
+        & predicate_fits(tag, nodes[k + node::PREDICATE]);
+    let childless = (nodes[k + node::COUNT] == 0) & (nodes[k + node::END] == (n + 1) as u64);
+    (tag <= 5) & named & valued & (is_branch(tag) | childless)
 }
 
 // The sum, or the greatest number where it is greater.
@@ -125,20 +130,18 @@ pub fn put_name(text: &[u8], start: usize, len: usize, out: &mut [u8], at: usize
     plus(at, len)
 }
 
-// What stands before node `m`, a child of a type with this tag.
+// What stands before node `m`, which is there, a child of a type with this tag.
 fn put_label(text: &[u8], nodes: &[u64], m: usize, tag: u64, out: &mut [u8], at: usize) -> usize
+    requires { ⌜ m < length (now nodes) / width ⌝ }
     ensures { λ r. ⌜ record { out = now (out .exit); place = r } ≡ putLabel (now (text .entry)) tag (cell (now (nodes .entry)) m startAt, cell (now (nodes .entry)) m lenAt) (cell (now (nodes .entry)) m discriminantAt) (record { out = now (out .entry); place = at }) ⌝ }
 {
-    let len = read_cell(nodes, m, node::LEN);
+    let k = m * node::WIDTH;
+    let start = nodes[k + node::START];
+    let len = nodes[k + node::LEN];
+    let discriminant = nodes[k + node::DISCRIMINANT];
     let named = put_number(out, at, len);
-    let past = put_name(
-        text,
-        read_cell(nodes, m, node::START) as usize,
-        len as usize,
-        out,
-        named,
-    );
-    put_where(out, past, tag == 4, read_cell(nodes, m, node::DISCRIMINANT))
+    let past = put_name(text, start as usize, len as usize, out, named);
+    put_where(out, past, tag == 4, discriminant)
 }
 
 // Two numbers, the second only where it is asked for.
@@ -168,16 +171,20 @@ fn emit(
     if !node_fits(nodes, n, parent) {
         return Emitted::Wrong;
     }
-    let tag = read_cell(nodes, n, node::TAG);
-    if !is_branch(nodes, n) {
-        let place = put_two(out, at, tag, tag == 2, read_cell(nodes, n, node::PREDICATE));
+    let k = n * node::WIDTH;
+    let tag = nodes[k + node::TAG];
+    if !is_branch(tag) {
+        let place = put_two(out, at, tag, tag == 2, nodes[k + node::PREDICATE]);
         return Emitted::Done { next: n + 1, place };
     }
-    let count = read_cell(nodes, n, node::COUNT);
+    let count = nodes[k + node::COUNT];
     let mut a = put_two(out, at, tag, true, count);
     let mut m = n + 1;
     let mut i: u64 = 0;
     while i < count {
+        if nodes.len() / node::WIDTH <= m {
+            return Emitted::Wrong;
+        }
         let named = put_label(text, nodes, m, tag, out, a);
         match emit(text, nodes, m, tag, depth - 1, out, named) {
             Emitted::Wrong => {
@@ -190,7 +197,7 @@ fn emit(
         }
         i += 1;
     }
-    if read_cell(nodes, n, node::END) == m as u64 {
+    if nodes[k + node::END] == m as u64 {
         return Emitted::Done { next: m, place: a };
     }
     Emitted::Wrong
@@ -240,17 +247,31 @@ pub fn check_name(text: &[u8], start: usize, len: usize) -> Names
     Names::Refused(Refusal::BadString)
 }
 
+// Where the name of node `m` stands. The test of the whole node is for the node that is there, whose numbers are then read without a test of each.
+fn read_span(nodes: &[u64], m: usize) -> Span
+    ensures { λ r. ⌜ (r .start ≡ cell (now (nodes .entry)) m startAt) × (r .len ≡ cell (now (nodes .entry)) m lenAt) ⌝ }
+{
+    if nodes.len() / node::WIDTH <= m {
+        return Span {
+            start: read_cell(nodes, m, node::START),
+            len: read_cell(nodes, m, node::LEN),
+        };
+    }
+    let k = m * node::WIDTH;
+    Span {
+        start: nodes[k + node::START],
+        len: nodes[k + node::LEN],
+    }
+}
+
 // The names of the nodes from `from` to before `end`: nodes stand in reading order, and so do their names.
 pub fn check_names(text: &[u8], nodes: &[u64], from: usize, end: usize) -> Names
     ensures { λ r. ⌜ r ≡ namesFrom (now (text .entry)) (now (nodes .entry)) from (end - from) ⌝ }
 {
     let mut m = from;
     while m < end {
-        match check_name(
-            text,
-            read_cell(nodes, m, node::START) as usize,
-            read_cell(nodes, m, node::LEN) as usize,
-        ) {
+        let name = read_span(nodes, m);
+        match check_name(text, name.start as usize, name.len as usize) {
             Names::Refused(r) => {
                 return Names::Refused(r);
             }

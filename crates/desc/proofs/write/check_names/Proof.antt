@@ -15,11 +15,8 @@ abbrev μ-loop : tie.MeasureT-loop
 loop-holds : tie.Need-loop-holds Inv-loop μ-loop
 loop-holds c = refl
 
-read-cell-requires : tie.Need-read-cell-requires Inv-loop μ-loop
-read-cell-requires c κs = search needs
-
-read-cell-requires-2 : tie.Need-read-cell-requires-2 Inv-loop μ-loop
-read-cell-requires-2 c κs = search needs
+read-span-requires : tie.Need-read-span-requires Inv-loop μ-loop
+read-span-requires c κs = search needs
 
 check-name-requires : tie.Need-check-name-requires Inv-loop μ-loop
 check-name-requires c κs = search needs
@@ -28,7 +25,7 @@ enum-known-r : tie.Need-enum-known-r Inv-loop μ-loop
 enum-known-r c = search needs
 
 returns : tie.Need-returns Inv-loop μ-loop
-returns c = sym (c .before .before .before .before .before .before .before .loop .inv ∙ names-refused _ _ _ _ _ _ _ (c .before .before .before .before .before .read-cell .ensures) (c .before .before .before .before .read-cell2 .ensures) (c .before .before .before .check-name .ensures) (c .before .before .before .before .before .before .loop-test .taken) _ (c .before .r .given .1))
+returns c = sym (c .before .before .before .before .before .before .loop .inv ∙ names-refused _ _ _ _ _ _ _ (c .before .before .before .before .read-span .ensures .0) (c .before .before .before .before .read-span .ensures .1) (c .before .before .before .check-name .ensures) (c .before .before .before .before .before .loop-test .taken) _ (c .before .r .given .1))
 
 enum-told : tie.Need-enum-told Inv-loop μ-loop
 enum-told c = search needs
@@ -40,7 +37,7 @@ loop-less : tie.Need-loop-less Inv-loop μ-loop
 loop-less c = search needs
 
 loop-again : tie.Need-loop-again Inv-loop μ-loop
-loop-again c = c .before .before .before .before .before .before .loop .inv ∙ names-good _ _ _ _ _ _ _ (c .before .before .before .before .read-cell .ensures) (c .before .before .before .read-cell2 .ensures) (c .before .before .check-name .ensures) (c .before .before .before .before .before .loop-test .taken) (c .enum-told .given .1)
+loop-again c = c .before .before .before .before .before .loop .inv ∙ names-good _ _ _ _ _ _ _ (c .before .before .before .read-span .ensures .0) (c .before .before .before .read-span .ensures .1) (c .before .before .check-name .ensures) (c .before .before .before .before .loop-test .taken) (c .enum-told .given .1)
 
 returns-2 : tie.Need-returns-2 Inv-loop μ-loop
 returns-2 c = sym (c .before .loop .inv ∙ names-end _ _ _ _ (c .loop-test .left))
@@ -52,8 +49,7 @@ check-names-spec =
     Inv-loop
     μ-loop
     loop-holds
-    read-cell-requires
-    read-cell-requires-2
+    read-span-requires
     check-name-requires
     enum-known-r
     returns
