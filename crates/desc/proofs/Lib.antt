@@ -14,6 +14,7 @@ pub mod FillLaws
 pub mod FineRead
 pub mod GatherFine
 pub mod GatherPlaced
+pub mod GaugeLaws
 pub mod GotAs
 pub mod HeadLaws
 pub mod KidLaws

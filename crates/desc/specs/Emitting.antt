@@ -26,6 +26,10 @@ pub record Pen : Type 0 where
   pub out : List ℕ
   pub place : ℕ
 
+-- a pen over no bytes: what is written moves the place alone
+abbrev pub nowhere : ℕ → Pen
+nowhere at = record { out = []; place = at }
+
 unfoldable pub putBytes : List ℕ → Pen → Pen
 putBytes x s = record { out = sets (s .out) (s .place) x; place = declared (s .place + length x) }
 

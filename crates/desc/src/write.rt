@@ -1,5 +1,6 @@
 // Writing descriptors: a node table and its texts back to bytes.
 ghost use mathlib.Core.Bool.{true, _&&_, _||_};
+ghost use mathlib.Core.List.{[]};
 ghost use mathlib.Core.Path.{_≡_};
 ghost use Prim.Native.Nat.{_+_, _-_, _/_, _≤_, _<_};
 ghost use lib.Dec.{leb, eqb};
@@ -9,7 +10,7 @@ ghost use Rattle.varint.specs.Gathering.{nameHeld};
 ghost use Rattle.varint.specs.Outs.{declared};
 ghost use Rattle.desc.specs.Layout.{width, startAt, lenAt, discriminantAt};
 ghost use Rattle.desc.specs.Table.{cell, nodeFits, table};
-ghost use Rattle.desc.specs.Emitting.{putNumber, putWhere, putName, putLabel, told, emission, sized, putDesc, verdict, namesFrom};
+ghost use Rattle.desc.specs.Emitting.{nowhere, putNumber, putWhere, putName, putLabel, told, emission, sized, putDesc, verdict, namesFrom};
 ghost use Rattle.desc.specs.Encoding.{encodeDesc};
 use crate::node;
 use crate::node::read_cell;
@@ -17,6 +18,7 @@ use varint::Written;
 use varint::error::Buffer;
 use varint::error::Fault;
 use varint::error::Refusal;
+use varint::len_u64;
 use varint::put_u64;
 use varint::store::clear_bytes;
 use varint::store::copy_bytes;
@@ -153,7 +155,7 @@ fn put_two(out: &mut [u8], at: usize, v: u64, wanted: bool, w: u64) -> usize
 }
 
 // Writes node `n`, which stands below a parent with this tag (0: it is a root), and all below it from place `at` of `out` on, where `depth`
-// more levels may nest. What lies past the end of `out` is not stored, so with a buffer of one byte this tests the layout and tells the size.
+// more levels may nest. What lies past the end of `out` is not stored.
 fn emit(
     text: &[u8],
     nodes: &[u64],
@@ -203,14 +205,87 @@ fn emit(
     Emitted::Wrong
 }
 
+// The place after the varint of `v` that starts at place `at`.
+fn past_number(at: usize, v: u64) -> usize
+    ensures { λ r. ⌜ nowhere r ≡ putNumber v (nowhere at) ⌝ }
+{
+    plus(at, len_u64(v))
+}
+
+// The same where there is one.
+fn past_where(at: usize, wanted: bool, v: u64) -> usize
+    ensures { λ r. ⌜ nowhere r ≡ putWhere wanted v (nowhere at) ⌝ }
+{
+    if wanted {
+        return past_number(at, v);
+    }
+    at
+}
+
+// The place after what stands before node `m`, which is there, a child of a type with this tag.
+fn past_label(nodes: &[u64], m: usize, tag: u64, at: usize) -> usize
+    requires { ⌜ m < length (now nodes) / width ⌝ }
+    ensures { λ r. ⌜ nowhere r ≡ putLabel [] tag (cell (now (nodes .entry)) m startAt, cell (now (nodes .entry)) m lenAt) (cell (now (nodes .entry)) m discriminantAt) (nowhere at) ⌝ }
+{
+    let k = m * node::WIDTH;
+    let len = nodes[k + node::LEN];
+    let named = past_number(at, len);
+    let past = plus(named, len as usize);
+    past_where(past, tag == 4, nodes[k + node::DISCRIMINANT])
+}
+
+// What `emit` answers, whatever the text and the buffer are: the test of the layout and the place after the last byte, with nothing stored. A walk of
+// its own, since it only adds up lengths.
+fn gauge(nodes: &[u64], n: usize, parent: u64, depth: u64, at: usize) -> Emitted
+    ensures { λ r. ⌜ told r [] ≡ emission [] (table depth (now (nodes .entry)) n parent) (nowhere at) ⌝ }
+{
+    if depth == 0 {
+        return Emitted::Wrong;
+    }
+    if !node_fits(nodes, n, parent) {
+        return Emitted::Wrong;
+    }
+    let k = n * node::WIDTH;
+    let tag = nodes[k + node::TAG];
+    // a tag has one byte
+    let past = plus(at, 1);
+    if !is_branch(tag) {
+        let place = past_where(past, tag == 2, nodes[k + node::PREDICATE]);
+        return Emitted::Done { next: n + 1, place };
+    }
+    let count = nodes[k + node::COUNT];
+    let mut a = past_number(past, count);
+    let mut m = n + 1;
+    let mut i: u64 = 0;
+    while i < count {
+        if nodes.len() / node::WIDTH <= m {
+            return Emitted::Wrong;
+        }
+        let named = past_label(nodes, m, tag, a);
+        match gauge(nodes, m, tag, depth - 1, named) {
+            Emitted::Wrong => {
+                return Emitted::Wrong;
+            }
+            Emitted::Done { next, place } => {
+                m = next;
+                a = place;
+            }
+        }
+        i += 1;
+    }
+    let end = nodes[k + node::END];
+    if end == m as u64 {
+        return Emitted::Done { next: m, place: a };
+    }
+    Emitted::Wrong
+}
+
 // The node after the tree whose root is node `n`, and how many bytes it takes by the lengths in the table; a size over 2^64−1 is told as
 // 2^64−1.
 pub fn size_desc(nodes: &[u64], n: usize, limit: u64) -> Emitted
     ensures { λ r. ⌜ r ≡ sized (table limit (now (nodes .entry)) n 0) ⌝ }
 {
-    let text = [0u8; 1];
-    let mut scratch = [0u8; 1];
-    emit(&text, nodes, n, 0, limit, &mut scratch, 0)
+    gauge(nodes, n, 0, limit, 0)
 }
 
 // Writes the tree whose root is node `n` from place `at` of `out` on, as far as `out` goes: for whoever writes a descriptor within other bytes. Of
