@@ -2,7 +2,7 @@
 use mathlib.Core.Bool.{Bool, true, false}
 use mathlib.Core.Path.{_≡_, refl, ap, _∙_}
 use mathlib.Core.List.{List}
-use Prim.Native.Nat.{ℕ, _+_}
+use Prim.Native.Nat.{ℕ, _+_, _≤_}
 use native.Mathlib.Omega.{arith}
 use lib.Dec.{eqb}
 use lib.ListN.{length}
@@ -72,12 +72,13 @@ module _ (p : ℕ) where
         (kids-moved tx tag ks (n + L + name .1 + D + spanSize t) (putTree tx t s₃) h₄)
         (omega arith)
 
--- from the start of a buffer
-from-start : (tx : List ℕ) (t : Tree Span) (out : List ℕ) → (putTree tx t (record { out = out; place = 0 })) .place ≡ declared (spanSize t)
+-- from a place of a buffer
+pub from-place : (tx : List ℕ) (t : Tree Span) (out : List ℕ) (at : ℕ) → at ≤ 18446744073709551615
+    → (putTree tx t (record { out = out; place = at })) .place ≡ declared (at + spanSize t)
 unfolding Moved
-from-start tx t out =
-    let e : 0 + (0 + spanSize t) ≡ spanSize t = omega arith in
-    tree-moved 0 tx t 0 (record { out = out; place = 0 }) (omega arith) ∙ ap declared e
+from-place tx t out at h =
+    let e : at + (0 + spanSize t) ≡ at + spanSize t = omega arith in
+    tree-moved at tx t 0 (record { out = out; place = at }) (omega arith) ∙ ap declared e
 
 -- what a writer that stores nowhere tells
 pub size-told : (tx : List ℕ) (D : Got (Tree Span)) (out : List ℕ) (R : Emitted) (o : List ℕ)
@@ -86,7 +87,8 @@ unfolding told emission sized
 size-told tx (got t e) out (Done e₂ a) o h =
     let p : e₂ ≡ e = cc in
     let q : record { out = o; place = a } ≡ putTree tx t (record { out = out; place = 0 }) = cc in
-    let m : a ≡ declared (spanSize t) = ap (λ (s : Pen). s .place) q ∙ from-start tx t out in
+    let z : 0 + spanSize t ≡ spanSize t = omega arith in
+    let m : a ≡ declared (spanSize t) = ap (λ (s : Pen). s .place) q ∙ from-place tx t out 0 (omega arith) ∙ ap declared z in
     rw (p, m)
 size-told tx (got t e) out Wrong o h = let z : _≡_ {A = ℕ} 0 1 = cc in absurd (omega arith)
 size-told tx (bad e) out (Done e₂ a) o h = let z : _≡_ {A = ℕ} 0 1 = cc in absurd (omega arith)

@@ -4,6 +4,7 @@ pub mod DescFormat
 pub mod DescLines
 pub mod EmitEncode
 pub mod EmitLaws
+pub mod EmitPast
 pub mod EmitPens
 pub mod EmitPrint
 pub mod EmitPut

@@ -289,7 +289,7 @@ pub fn size_desc(nodes: &[u64], n: usize, limit: u64) -> Emitted
 }
 
 // Writes the tree whose root is node `n` from place `at` of `out` on, as far as `out` goes: for whoever writes a descriptor within other bytes. Of
-// a table that is not laid out as one nothing is written.
+// a table that is not laid out as one nothing is written. Past the end of `out` nothing is stored, and the size tells the place.
 pub fn put_desc(
     text: &[u8],
     nodes: &[u64],
@@ -302,7 +302,15 @@ pub fn put_desc(
 {
     match size_desc(nodes, n, limit) {
         Emitted::Wrong => Emitted::Wrong,
-        Emitted::Done { next: _, place: _ } => emit(text, nodes, n, 0, limit, out, at),
+        Emitted::Done { next, place } => {
+            if out.len() <= at {
+                return Emitted::Done {
+                    next,
+                    place: plus(at, place),
+                };
+            }
+            emit(text, nodes, n, 0, limit, out, at)
+        }
     }
 }
 
