@@ -6,11 +6,12 @@ use Prim.Native.Nat.{ℕ, zero, suc, _+_, _-_, _/_, _≤_, _<_}
 use native.Mathlib.Omega.{arith}
 use lib.Dec.{eqb}
 use lib.ListN.{length}
-use borrow.Author.Tests.{eq-eqb, ne-eqb}
+use borrow.Author.Tests.{eq-eqb, ne-eqb, eqb-true, eqb-false}
 use Rattle.varint.specs.Choice.{pick}
 use Rattle.varint.specs.Formats.{Got, got, bad, then}
 use Rattle.varint.specs.declared.error.Fault.the-variants.{Layout}
 use Rattle.varint.specs.declared.error.Refusal.the-variants.{BadMessage}
+use Rattle.varint.proofs.Basics.{test}
 use Rattle.desc.specs.declared.write.Emitted.{Emitted}
 use Rattle.desc.specs.declared.write.Emitted.the-variants.{Done, Wrong}
 use Rattle.desc.specs.Emitting.{Pen, putNumber, putWhere, putLabel, putTree, putKids, Emission, wrong, done, emission, told}
@@ -158,14 +159,22 @@ module _ (tx nd : List ℕ) (d n parent : ℕ) (s : Pen) (o : List ℕ) where
       unfolding kidsEmission kidsAt putKids
       ended = let e : count - i ≡ 0 = omega arith in inv ∙ rw e
 
-      pub emit-open : (cell nd n 6 ≡ m → ⊥) → told Wrong o ≡ emission tx (table d nd n parent) s
+      emit-open : (cell nd n 6 ≡ m → ⊥) → told Wrong o ≡ emission tx (table d nd n parent) s
       unfolding told
       emit-open q = rw is (kids-open tx tag (cell nd n 6) kids m s s₁ (record { out = o; place = a }) ended q)
 
-      pub emit-branch : cell nd n 6 ≡ m → s₁ ≡ putWhere true count (putNumber tag s) → told (Done m a) o ≡ emission tx (table d nd n parent) s
+      emit-branch : cell nd n 6 ≡ m → s₁ ≡ putWhere true count (putNumber tag s) → told (Done m a) o ≡ emission tx (table d nd n parent) s
       unfolding told putWhere
       emit-branch q w =
           rw is
           (kids-closed tx tag (cell nd n 6) count kids m s s₁ (record { out = o; place = a })
           (λ ks e h. kid-count (table (d - 1) nd) nd tag count (n + 1) e ks h)
           ended q w)
+
+      -- by the comparison of its end
+      pub emit-closed : (R : Emitted) → s₁ ≡ putWhere true count (putNumber tag s) → R ≡ pick (eqb (cell nd n 6) m) (Done m a) Wrong
+          → told R o ≡ emission tx (table d nd n parent) s
+      emit-closed R w h =
+          test (eqb (cell nd n 6) m)
+          (λ e. rw (h, e) (emit-branch (eqb-true (cell nd n 6) m e) w))
+          (λ e. rw (h, e) (emit-open (eqb-false (cell nd n 6) m e)))

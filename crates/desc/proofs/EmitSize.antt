@@ -15,6 +15,7 @@ use Rattle.desc.specs.declared.write.Emitted.the-variants.{Done, Wrong}
 use Rattle.desc.specs.Emitting.{Pen, putBytes, putNumber, putWhere, putName, putLabel, putTree, putKids, emission, told, spanSize, kidsSpan, sized}
 use Rattle.desc.specs.Layout.{Span}
 use Rattle.desc.specs.Trees.{Tree, leaf, branch, Kids, none, more, kidCount}
+use Rattle.desc.proofs.EmitPrint.{last}
 
 -- the place was p, and moved on by n
 Moved : ℕ → ℕ → Pen → Type 0
@@ -73,7 +74,7 @@ module _ (p : ℕ) where
         (omega arith)
 
 -- from a place of a buffer
-pub from-place : (tx : List ℕ) (t : Tree Span) (out : List ℕ) (at : ℕ) → at ≤ 18446744073709551615
+pub from-place : (tx : List ℕ) (t : Tree Span) (out : List ℕ) (at : ℕ) → at ≤ last
     → (putTree tx t (record { out = out; place = at })) .place ≡ declared (at + spanSize t)
 unfolding Moved
 from-place tx t out at h =

@@ -30,7 +30,7 @@ module _ (nd : List ℕ) (n parent : ℕ) where
   unfolding nodeFits
   fits-not h = rw (le-ltb n (length nd / 7) h)
 
-  -- by the tests of its numbers
+  -- a node that is there fits by the tests of its numbers
   pub fits-parts : {named discriminant predicate parts : Bool} → n < length nd / 7
       → named ≡ pick (eqb parent 0) (eqb (cell nd n 1) 0 && eqb (cell nd n 2) 0) true
       → discriminant ≡ pick (eqb parent 4) (leb (cell nd n 3) 0xFFFFFFFF) (eqb (cell nd n 3) 0)

@@ -8,6 +8,7 @@ ghost use lib.ListN.{length};
 ghost use Rattle.varint.specs.Choice.{pick};
 ghost use Rattle.varint.specs.Gathering.{nameHeld};
 ghost use Rattle.varint.specs.Outs.{declared};
+ghost use Rattle.desc.specs.declared.write.Emitted.the-variants.{Done, Wrong};
 ghost use Rattle.desc.specs.Layout.{width, startAt, lenAt, discriminantAt};
 ghost use Rattle.desc.specs.Table.{cell, nodeFits, table};
 ghost use Rattle.desc.specs.Emitting.{nowhere, putNumber, putWhere, putName, putLabel, told, emission, sized, putDesc, verdict, namesFrom};
@@ -154,6 +155,16 @@ fn put_two(out: &mut [u8], at: usize, v: u64, wanted: bool, w: u64) -> usize
     put_where(out, past, wanted, w)
 }
 
+// A type with parts, whose last part ends before node `next`: its end is to say so.
+fn closed(end: u64, next: usize, place: usize) -> Emitted
+    ensures { λ r. ⌜ r ≡ pick (eqb end next) (Done next place) Wrong ⌝ }
+{
+    if end == next as u64 {
+        return Emitted::Done { next, place };
+    }
+    Emitted::Wrong
+}
+
 // Writes node `n`, which stands below a parent with this tag (0: it is a root), and all below it from place `at` of `out` on, where `depth`
 // more levels may nest. What lies past the end of `out` is not stored.
 fn emit(
@@ -199,10 +210,7 @@ fn emit(
         }
         i += 1;
     }
-    if nodes[k + node::END] == m as u64 {
-        return Emitted::Done { next: m, place: a };
-    }
-    Emitted::Wrong
+    closed(nodes[k + node::END], m, a)
 }
 
 // The place after the varint of `v` that starts at place `at`.
@@ -235,7 +243,7 @@ fn past_label(nodes: &[u64], m: usize, tag: u64, at: usize) -> usize
 }
 
 // What `emit` answers, whatever the text and the buffer are: the test of the layout and the place after the last byte, with nothing stored. A walk of
-// its own, since it only adds up lengths.
+// its own, since it only adds up lengths; that of a tag is 1.
 fn gauge(nodes: &[u64], n: usize, parent: u64, depth: u64, at: usize) -> Emitted
     ensures { λ r. ⌜ told r [] ≡ emission [] (table depth (now (nodes .entry)) n parent) (nowhere at) ⌝ }
 {
@@ -247,7 +255,6 @@ fn gauge(nodes: &[u64], n: usize, parent: u64, depth: u64, at: usize) -> Emitted
     }
     let k = n * node::WIDTH;
     let tag = nodes[k + node::TAG];
-    // a tag has one byte
     let past = plus(at, 1);
     if !is_branch(tag) {
         let place = past_where(past, tag == 2, nodes[k + node::PREDICATE]);
@@ -273,11 +280,7 @@ fn gauge(nodes: &[u64], n: usize, parent: u64, depth: u64, at: usize) -> Emitted
         }
         i += 1;
     }
-    let end = nodes[k + node::END];
-    if end == m as u64 {
-        return Emitted::Done { next: m, place: a };
-    }
-    Emitted::Wrong
+    closed(nodes[k + node::END], m, a)
 }
 
 // The node after the tree whose root is node `n`, and how many bytes it takes by the lengths in the table; a size over 2^64−1 is told as
@@ -330,7 +333,7 @@ pub fn check_name(text: &[u8], start: usize, len: usize) -> Names
     Names::Refused(Refusal::BadString)
 }
 
-// Where the name of node `m` stands. The test of the whole node is for the node that is there, whose numbers are then read without a test of each.
+// Where the name of node `m` stands; a number that the table lacks counts as 0. Of a node that is there whole, no number needs a test of its own.
 fn read_span(nodes: &[u64], m: usize) -> Span
     ensures { λ r. ⌜ (r .start ≡ cell (now (nodes .entry)) m startAt) × (r .len ≡ cell (now (nodes .entry)) m lenAt) ⌝ }
 {

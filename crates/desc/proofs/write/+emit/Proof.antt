@@ -7,7 +7,7 @@ use borrow.Author.Tests.{not-true, not-false}
 use denote.Ref.{now}
 use lib.ListN.{length}
 use Rattle.desc.specs.Table.{cell, kidsAt, closedAt, table}
-use Rattle.desc.proofs.EmitLaws.{kidsEmission, turn-done, turn-wrong, turn-outside, node-leaf, node-branch, emit-deep, emit-unfit, emit-leaf, emit-stopped, emit-open, emit-branch}
+use Rattle.desc.proofs.EmitLaws.{kidsEmission, turn-done, turn-wrong, turn-outside, node-leaf, node-branch, emit-deep, emit-unfit, emit-leaf, emit-stopped, emit-closed}
 use Rattle.desc.proofs.TableCells.{fits-inside}
 use Prim.Native.Nat.{ℕ, _<_}
 use borrow.Fn.Kinds.{In}
@@ -15,6 +15,7 @@ use borrow.Fn.PlainCycle.{Measures, is, falls, and}
 use Rattle.desc.proofs.write.emit.Reads as emit
 use Rattle.desc.proofs.write.emit.Kinds as emit-kinds
 use Rattle.desc.proofs.write.+emit.Lts-emit as emit-lts
+use Rattle.desc.proofs.write.closed.Reads as closed-reads
 use Rattle.desc.proofs.write.is_branch.Reads as is-branch-reads
 use Rattle.desc.proofs.write.node_fits.Reads as node-fits-reads
 use Rattle.desc.proofs.write.put_label.Reads as put-label-reads
@@ -43,6 +44,8 @@ claims t = (
   put-label-reads.Learnt,
   emit-below t,
   emit.Post,
+  closed-reads.Asked,
+  closed-reads.Learnt,
 )
 
 abbrev emit-Inv-loop : emit-lts.InvT-loop
@@ -185,14 +188,17 @@ emit-loop-again t c =
     let l = c .before .before .before .before .before .before .before .before .before .before .before .before .before .loop in
     (omega arith, omega arith, l .inv .2 ∙ turn-done (table (a .depth - 1) (now (a .nodes))) (now (a .text)) (now (a .nodes)) _ _ (l .i) (l .m) (record { out = l .out; place = l .a }) _ _ _ (c .before .before .before .before .before .before .before .before .before .before .before .before .loop-test .taken) (c .before .before .before .before .before .before .before .before .before .put-label .ensures) (c .before .before .before .before .before .emit .ensures) _ _ (c .before .next .given .1))
 
-emit-add-if5 : (t : ℕ) → emit-lts.Need-add-if5 (claims t) (emit-at t) emit.Post emit-Inv-loop emit-μ-loop
-emit-add-if5 t c = let f = inside t (c .before .before .before .before .before .before .before .before .before .before) in omega arith
+emit-add-closed : (t : ℕ) → emit-lts.Need-add-closed (claims t) (emit-at t) emit.Post emit-Inv-loop emit-μ-loop
+emit-add-closed t c = let f = inside t (c .before .before .before .before .before .before .before .before .before .before) in omega arith
 
-emit-mul-if5 : (t : ℕ) → emit-lts.Need-mul-if5 (claims t) (emit-at t) emit.Post emit-Inv-loop emit-μ-loop
-emit-mul-if5 t c = let f = inside t (c .before .before .before .before .before .before .before .before .before .before) in omega arith
+emit-mul-closed : (t : ℕ) → emit-lts.Need-mul-closed (claims t) (emit-at t) emit.Post emit-Inv-loop emit-μ-loop
+emit-mul-closed t c = let f = inside t (c .before .before .before .before .before .before .before .before .before .before) in omega arith
 
-emit-shared-slice-read-if5 : (t : ℕ) → emit-lts.Need-shared-slice-read-if5 (claims t) (emit-at t) emit.Post emit-Inv-loop emit-μ-loop
-emit-shared-slice-read-if5 t c = let f = inside t (c .before .before .before .before .before .before .before .before .before .before .before) in omega arith
+emit-shared-slice-read-closed : (t : ℕ) → emit-lts.Need-shared-slice-read-closed (claims t) (emit-at t) emit.Post emit-Inv-loop emit-μ-loop
+emit-shared-slice-read-closed t c = let f = inside t (c .before .before .before .before .before .before .before .before .before .before .before) in omega arith
+
+emit-closed-requires : (t : ℕ) → emit-lts.Need-closed-requires (claims t) (emit-at t) emit.Post emit-Inv-loop emit-μ-loop
+emit-closed-requires t c κs = search needs
 
 emit-same-length-4 : (t : ℕ) → emit-lts.Need-same-length-4 (claims t) (emit-at t) emit.Post emit-Inv-loop emit-μ-loop
 emit-same-length-4 t c = search needs
@@ -201,16 +207,7 @@ emit-returns-6 : (t : ℕ) → emit-lts.Need-returns-6 (claims t) (emit-at t) em
 emit-returns-6 t c =
     let a = c .before .before .before .before .before .before .before .before .before .before .before .before .before .before .before .before .before .before .args in
     let l = c .before .before .before .loop in
-    emit-branch (now (a .text)) (now (a .nodes)) (a .depth) (a .n) (a .parent) (record { out = now (a .out); place = a .at }) _ _ _ (is-branch t (c .before .before .before .before .before .before .before .before .before)) _ (l .i) (l .m) (l .a) (c .before .before .loop-test .left) (l .inv .2) (c .if5 .taken) (c .before .before .before .before .before .before .put-two2 .ensures)
-
-emit-same-length-5 : (t : ℕ) → emit-lts.Need-same-length-5 (claims t) (emit-at t) emit.Post emit-Inv-loop emit-μ-loop
-emit-same-length-5 t c = search needs
-
-emit-returns-7 : (t : ℕ) → emit-lts.Need-returns-7 (claims t) (emit-at t) emit.Post emit-Inv-loop emit-μ-loop
-emit-returns-7 t c =
-    let a = c .before .before .before .before .before .before .before .before .before .before .before .before .before .before .before .before .before .before .args in
-    let l = c .before .before .before .loop in
-    emit-open (now (a .text)) (now (a .nodes)) (a .depth) (a .n) (a .parent) (record { out = now (a .out); place = a .at }) _ _ _ (is-branch t (c .before .before .before .before .before .before .before .before .before)) _ (l .i) (l .m) (l .a) (c .before .before .loop-test .left) (l .inv .2) (c .if5 .left)
+    emit-closed (now (a .text)) (now (a .nodes)) (a .depth) (a .n) (a .parent) (record { out = now (a .out); place = a .at }) _ _ _ (is-branch t (c .before .before .before .before .before .before .before .before .before)) _ (l .i) (l .m) (l .a) (c .before .before .loop-test .left) (l .inv .2) _ (c .before .before .before .before .before .before .put-two2 .ensures) (c .closed .ensures)
 
 pub +emit-spec : {M : Type 1} → statement M
 +emit-spec = close μ-emit λ t. emit-lts.spec (claims t)
@@ -251,10 +248,9 @@ pub +emit-spec : {M : Type 1} → statement M
     (emit-add-i t)
     (emit-loop-less t)
     (emit-loop-again t)
-    (emit-add-if5 t)
-    (emit-mul-if5 t)
-    (emit-shared-slice-read-if5 t)
+    (emit-add-closed t)
+    (emit-mul-closed t)
+    (emit-shared-slice-read-closed t)
+    (emit-closed-requires t)
     (emit-same-length-4 t)
     (emit-returns-6 t)
-    (emit-same-length-5 t)
-    (emit-returns-7 t)

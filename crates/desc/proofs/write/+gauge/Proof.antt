@@ -10,7 +10,7 @@ use lib.Dec.{eqb}
 use lib.ListN.{length}
 use Rattle.desc.specs.Emitting.{nowhere, putNumber, putWhere}
 use Rattle.desc.specs.Table.{cell, kidsAt, closedAt, table}
-use Rattle.desc.proofs.EmitLaws.{kidsEmission, turn-done, turn-wrong, turn-outside, node-leaf, node-branch, emit-deep, emit-unfit, emit-leaf, emit-stopped, emit-open, emit-branch}
+use Rattle.desc.proofs.EmitLaws.{kidsEmission, turn-done, turn-wrong, turn-outside, node-leaf, node-branch, emit-deep, emit-unfit, emit-leaf, emit-stopped, emit-closed}
 use Rattle.desc.proofs.GaugeLaws.{tag-gauged}
 use Rattle.desc.proofs.TableCells.{fits-inside}
 use Prim.Native.Nat.{ℕ, _<_}
@@ -19,6 +19,7 @@ use borrow.Fn.PlainCycle.{Measures, is, falls, and}
 use Rattle.desc.proofs.write.gauge.Reads as gauge
 use Rattle.desc.proofs.write.gauge.Kinds as gauge-kinds
 use Rattle.desc.proofs.write.+gauge.Lts-gauge as gauge-lts
+use Rattle.desc.proofs.write.closed.Reads as closed-reads
 use Rattle.desc.proofs.write.is_branch.Reads as is-branch-reads
 use Rattle.desc.proofs.write.node_fits.Reads as node-fits-reads
 use Rattle.desc.proofs.write.past_label.Reads as past-label-reads
@@ -53,6 +54,8 @@ claims t = (
   past-label-reads.Learnt,
   gauge-below t,
   gauge.Post,
+  closed-reads.Asked,
+  closed-reads.Learnt,
 )
 
 abbrev gauge-Inv-loop : gauge-lts.InvT-loop
@@ -130,8 +133,8 @@ gauge-shared-slice-read-past-where t c = let f = inside t (c .before .before .be
 gauge-past-where-requires : (t : ℕ) → gauge-lts.Need-past-where-requires (claims t) (gauge-at t) gauge.Post gauge-Inv-loop gauge-μ-loop
 gauge-past-where-requires t c κs = search needs
 
-gauge-add-t25 : (t : ℕ) → gauge-lts.Need-add-t25 (claims t) (gauge-at t) gauge.Post gauge-Inv-loop gauge-μ-loop
-gauge-add-t25 t c = let f = inside t (c .before .before .before .before .before .before) in omega arith
+gauge-add-t24 : (t : ℕ) → gauge-lts.Need-add-t24 (claims t) (gauge-at t) gauge.Post gauge-Inv-loop gauge-μ-loop
+gauge-add-t24 t c = let f = inside t (c .before .before .before .before .before .before) in omega arith
 
 gauge-returns-3 : (t : ℕ) → gauge-lts.Need-returns-3 (claims t) (gauge-at t) gauge.Post gauge-Inv-loop gauge-μ-loop
 gauge-returns-3 t c =
@@ -195,27 +198,24 @@ gauge-loop-again t c =
     let l = c .before .before .before .before .before .before .before .loop in
     (omega arith, l .inv .1 ∙ turn-done (table (a .depth - 1) (now (a .nodes))) [] (now (a .nodes)) _ _ (l .i) (l .m) (nowhere (l .a)) _ _ [] (c .before .before .before .before .before .before .loop-test .taken) (c .before .before .before .before .past-label .ensures) (c .before .before .before .gauge .ensures) _ _ (c .before .next .given .1))
 
-gauge-add-end : (t : ℕ) → gauge-lts.Need-add-end (claims t) (gauge-at t) gauge.Post gauge-Inv-loop gauge-μ-loop
-gauge-add-end t c = let f = inside t (c .before .before .before .before .before .before .before .before) in omega arith
+gauge-add-closed : (t : ℕ) → gauge-lts.Need-add-closed (claims t) (gauge-at t) gauge.Post gauge-Inv-loop gauge-μ-loop
+gauge-add-closed t c = let f = inside t (c .before .before .before .before .before .before .before .before) in omega arith
 
-gauge-mul-end : (t : ℕ) → gauge-lts.Need-mul-end (claims t) (gauge-at t) gauge.Post gauge-Inv-loop gauge-μ-loop
-gauge-mul-end t c = let f = inside t (c .before .before .before .before .before .before .before .before) in omega arith
+gauge-mul-closed : (t : ℕ) → gauge-lts.Need-mul-closed (claims t) (gauge-at t) gauge.Post gauge-Inv-loop gauge-μ-loop
+gauge-mul-closed t c = let f = inside t (c .before .before .before .before .before .before .before .before) in omega arith
 
-gauge-shared-slice-read-end : (t : ℕ) → gauge-lts.Need-shared-slice-read-end (claims t) (gauge-at t) gauge.Post gauge-Inv-loop gauge-μ-loop
-gauge-shared-slice-read-end t c = let f = inside t (c .before .before .before .before .before .before .before .before .before) in omega arith
+gauge-shared-slice-read-closed : (t : ℕ) → gauge-lts.Need-shared-slice-read-closed (claims t) (gauge-at t) gauge.Post gauge-Inv-loop gauge-μ-loop
+gauge-shared-slice-read-closed t c = let f = inside t (c .before .before .before .before .before .before .before .before .before) in omega arith
+
+gauge-closed-requires : (t : ℕ) → gauge-lts.Need-closed-requires (claims t) (gauge-at t) gauge.Post gauge-Inv-loop gauge-μ-loop
+gauge-closed-requires t c κs = search needs
 
 gauge-returns-6 : (t : ℕ) → gauge-lts.Need-returns-6 (claims t) (gauge-at t) gauge.Post gauge-Inv-loop gauge-μ-loop
 unfolding putWhere
 gauge-returns-6 t c =
     let a = c .before .before .before .before .before .before .before .before .before .before .before .before .before .before .args in
     let l = c .before .before .before .loop in
-    emit-branch [] (now (a .nodes)) (a .depth) (a .n) (a .parent) (nowhere (a .at)) [] _ _ (is-branch t (c .before .before .before .before .before .before)) _ (l .i) (l .m) (l .a) (c .before .before .loop-test .left) (l .inv .1) (c .if5 .taken) (c .before .before .before .before .past-number .ensures ∙ ap (putNumber (cell (now (a .nodes)) (a .n) 5)) (tag-is t (c .before .before .before .before .before .before .before .before)))
-
-gauge-returns-7 : (t : ℕ) → gauge-lts.Need-returns-7 (claims t) (gauge-at t) gauge.Post gauge-Inv-loop gauge-μ-loop
-gauge-returns-7 t c =
-    let a = c .before .before .before .before .before .before .before .before .before .before .before .before .before .before .args in
-    let l = c .before .before .before .loop in
-    emit-open [] (now (a .nodes)) (a .depth) (a .n) (a .parent) (nowhere (a .at)) [] _ _ (is-branch t (c .before .before .before .before .before .before)) _ (l .i) (l .m) (l .a) (c .before .before .loop-test .left) (l .inv .1) (c .if5 .left)
+    emit-closed [] (now (a .nodes)) (a .depth) (a .n) (a .parent) (nowhere (a .at)) [] _ _ (is-branch t (c .before .before .before .before .before .before)) _ (l .i) (l .m) (l .a) (c .before .before .loop-test .left) (l .inv .1) _ (c .before .before .before .before .past-number .ensures ∙ ap (putNumber (cell (now (a .nodes)) (a .n) 5)) (tag-is t (c .before .before .before .before .before .before .before .before))) (c .closed .ensures)
 
 pub +gauge-spec : {M : Type 1} → statement M
 +gauge-spec = close μ-gauge λ t. gauge-lts.spec (claims t)
@@ -236,7 +236,7 @@ pub +gauge-spec : {M : Type 1} → statement M
     (gauge-mul-past-where t)
     (gauge-shared-slice-read-past-where t)
     (gauge-past-where-requires t)
-    (gauge-add-t25 t)
+    (gauge-add-t24 t)
     (gauge-returns-3 t)
     (gauge-add-count t)
     (gauge-mul-count t)
@@ -254,8 +254,8 @@ pub +gauge-spec : {M : Type 1} → statement M
     (gauge-add-i t)
     (gauge-loop-less t)
     (gauge-loop-again t)
-    (gauge-add-end t)
-    (gauge-mul-end t)
-    (gauge-shared-slice-read-end t)
+    (gauge-add-closed t)
+    (gauge-mul-closed t)
+    (gauge-shared-slice-read-closed t)
+    (gauge-closed-requires t)
     (gauge-returns-6 t)
-    (gauge-returns-7 t)

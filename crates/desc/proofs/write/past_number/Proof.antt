@@ -2,7 +2,6 @@ use Rattle.desc.proofs.GaugeLaws.{number-gauged}
 use borrow.Author.Needs.{needs}
 use Rattle.desc.proofs.write.past_number.Statement.{statement}
 use Rattle.desc.proofs.write.past_number.Tie as tie
-use Rattle.varint.proofs.len_u64.Reads as len-u64-reads
 
 len-u64-requires : tie.Need-len-u64-requires
 len-u64-requires c κs = search needs
