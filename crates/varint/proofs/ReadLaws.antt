@@ -1,7 +1,7 @@
 -- Laws of reading a varint: a byte of each kind, sizes, and where a varint ends.
 use mathlib.Core.Bool.{_&&_, and-false}
 use mathlib.Core.Logic.{⊎-elim}
-use mathlib.Core.Path.{_≡_}
+use mathlib.Core.Path.{_≡_, refl, _∙_, ap}
 use mathlib.Core.List.{List, [], _∷_}
 use Prim.Native.Nat.{ℕ, suc, _+_, _-_, _*_, _%_, _^_, _≤_, _<_}
 use native.Mathlib.Nat.{pow-le-pow-right, pow-suc, suc-mul, mul-le-mul-right}
@@ -57,6 +57,12 @@ module _ (b : ℕ) (s : List ℕ) (p i v : ℕ) where
 -- the byte at place p is read first
 pub read-at : (s : List ℕ) (p i v : ℕ) → p < length s → readFrom (drop p s) p i v ≡ readFrom (getD s p 0 ∷ drop (p + 1) s) p i v
 read-at s p i v h = rw (add-one, drop-cons s p 0)
+
+-- a varint of one byte
+pub get-one : (s : List ℕ) (at : ℕ) {b : ℕ} → at < length s → b ≡ getD s at 0 → b < 128 → getU64 s at ≡ Value b (at + 1)
+unfolding getU64
+get-one s at {b} h e l =
+    read-at s at 0 0 h ∙ rw (← e) (last-first b (drop (at + 1) s) at 0 0 refl l ∙ ap (λ (v : ℕ). Value v (at + 1)) (omega arith))
 
 pub read-end : (s : List ℕ) (p i v : ℕ) → length s ≤ p → readFrom (drop p s) p i v ≡ Refused UnexpectedEof
 unfolding readFrom

@@ -41,8 +41,26 @@ pub(crate) fn wide(b: u8) -> u64
     b as u64
 }
 
-// The varint at place `at` of `s`.
+// The varint at place `at` of `s`. One byte, the most usual, is read here; the rest is read by a function that is called at
+// two places, which keeps it from being inlined, so that this one is small enough to be inlined everywhere.
 pub fn get_u64(s: &[u8], at: usize) -> ReadU64
+    ensures { λ r. ⌜ r ≡ getU64 (now (s .entry)) at ⌝ }
+{
+    if at < s.len() {
+        let b = wide(s[at]);
+        if b < 128 {
+            return ReadU64::Value {
+                value: b,
+                next: at + 1,
+            };
+        }
+        return get_long(s, at);
+    }
+    get_long(s, at)
+}
+
+// The varint at place `at` of `s`, of any length.
+fn get_long(s: &[u8], at: usize) -> ReadU64
     ensures { λ r. ⌜ r ≡ getU64 (now (s .entry)) at ⌝ }
 {
     let mut value: u64 = 0;
