@@ -8,7 +8,7 @@ use native.Mathlib.Omega.{arith}
 use native.Mathlib.Nat.{add-zero, zero-add, sub-zero}
 use native.Mathlib.Numerals.{add-one, sub-one}
 use lib.ListN.{length, getD, take, drop, set, replicate, length-drop, length-set, length-replicate, drop-of-length-le}
-use lib.Seq.{sets, sets-eq, length-sets, set-out, set-comm, drop-cons, take-all, take-length, take-take, take-add, take-append-seam, drop-append-seam, drop-drop, length-take-le, getD-take, getD-drop}
+use lib.Seq.{sets, sets-eq, length-sets, set-out, set-set, set-comm, drop-cons, take-all, take-length, take-take, take-add, take-append-seam, drop-append-seam, drop-drop, length-take-le, getD-take, getD-drop}
 use borrow.Author.Tests.{lt-ltb, le-ltb}
 use Rattle.varint.specs.Stores.{part, clearFrom, filled}
 use Rattle.varint.proofs.Basics.{below}
@@ -57,6 +57,14 @@ part-clip s from n =
     rw (e, take-all n (drop from s) a, take-all (length s - from) (drop from s) b))
     (below n (length s - from))
 
+-- the element at place j of a part, and what follows it
+pub part-step : (s : List ℕ) (from n j : ℕ) → from + n ≤ length s → j < n
+    → part s (from + j) (n - j) ≡ getD s (from + j) 0 ∷ part s (from + (j + 1)) (n - (j + 1))
+part-step s from n j h l =
+    let e : from + j + 1 ≡ from + (j + 1) = omega arith in
+    let f : n - j - 1 ≡ n - (j + 1) = omega arith in
+    part-cons s (from + j) (n - j) (omega arith) (omega arith) ∙ rw (e, f)
+
 -- two parts in a row are one
 pub part-add : (s : List ℕ) (from m n : ℕ) → part s from (m + n) ≡ part s from m ++ part s (from + m) n
 unfolding part
@@ -97,6 +105,41 @@ sets-back [] y d at = rw add-zero
 sets-back (a ∷ x) y d at =
     let e : at + suc (length x) ≡ suc at + length x = omega arith in
     rw (← sets-set y d (at + suc (length x)) at a (omega arith), e) (sets-back x y (set d at a) (suc at))
+
+-- nothing shows of a run under one that is as long
+sets-over : (y z d : List ℕ) (at : ℕ) → length y ≤ length z → sets (sets d at y) at z ≡ sets d at z
+sets-over [] z d at h = refl
+sets-over (a ∷ y) [] d at h = absurd (omega arith)
+sets-over (a ∷ y) (b ∷ z) d at h =
+    rw (← sets-set y (set d at a) (suc at) at b (omega arith), set-set) (sets-over y z (set d at b) (suc at) (omega arith))
+
+-- a part, and over its end a later one that meets it, is the joined part
+sets-join : (s d : List ℕ) (from at k n m : ℕ) → k ≤ n → n ≤ k + m → from + (k + m) ≤ length s
+    → sets (sets d at (part s from n)) (at + k) (part s (from + k) m) ≡ sets d at (part s from (k + m))
+sets-join s d from at k n m h l r =
+    let e : n ≡ k + (n - k) = omega arith in
+    let lx : length (part s from k) ≡ k = length-part s from k (omega arith) in
+    let ly : length (part s (from + k) (n - k)) ≡ n - k = length-part s (from + k) (n - k) (omega arith) in
+    let lz : length (part s (from + k) m) ≡ m = length-part s (from + k) m (omega arith) in
+    let two : (z : List ℕ) → sets d at (part s from k ++ z) ≡ sets (sets d at (part s from k)) (at + k) z =
+    λ z. sets-append (part s from k) z d at ∙ ap (λ (i : ℕ). sets (sets d at (part s from k)) (at + i) z) lx in
+    let first : sets d at (part s from n) ≡ sets (sets d at (part s from k)) (at + k) (part s (from + k) (n - k)) =
+    ap (λ (i : ℕ). sets d at (part s from i)) e ∙ rw part-add (two (part s (from + k) (n - k))) in
+    rw first
+    (sets-over (part s (from + k) (n - k)) (part s (from + k) m) (sets d at (part s from k)) (at + k) (omega arith)
+    ∙ sym (rw part-add (two (part s (from + k) m))))
+
+-- a run as far as n, and the block of w elements at its end, which meets that or lies over it
+pub sets-end : (s d : List ℕ) (from at n f p w len : ℕ) {d₁ d₂ : List ℕ}
+    → (f + w ≡ from + len) × (p + w ≡ at + len) × (w ≤ len) × (n ≤ len) × (len ≤ n + w) × (from + len ≤ length s)
+    → d₁ ≡ sets d at (part s from n)
+    → d₂ ≡ sets d₁ p (part s f w)
+    → d₂ ≡ sets d at (part s from len)
+sets-end s d from at n f p w len h e₁ e₂ =
+    let f′ : f ≡ from + (len - w) = omega arith in
+    let p′ : p ≡ at + (len - w) = omega arith in
+    let l′ : len - w + w ≡ len = omega arith in
+    e₂ ∙ rw (e₁, f′, p′) (sets-join s d from at (len - w) n w (omega arith) (omega arith) (omega arith) ∙ rw l′)
 
 -- of a run only what lies inside is stored
 pub sets-clip : (x d : List ℕ) (at n : ℕ) → length d - at ≤ n → sets d at (take n x) ≡ sets d at x
