@@ -10,6 +10,7 @@ pub mod FormatGives
 pub mod FormatParts
 pub mod OutLaws
 pub mod PutLaws
+pub mod PutSteps
 pub mod ReadLaws
 pub mod StoreLaws
 pub mod TextLaws

@@ -67,3 +67,11 @@ put-length-least (suc k) n h =
 
 pub put-length-64 : (n : ℕ) → n < 2 ^ 64 → length (putU64 n) ≤ 10
 put-length-64 n h = put-length 9 n (omega arith)
+
+-- from 128 ^ k on, and below the next power
+pub put-length-is : (k n : ℕ) → 128 ^ suc k ≤ n → n < 128 ^ suc (suc k) → suc (suc k) ≡ length (putU64 n)
+put-length-is k n h l =
+    ⊎-elim
+    (λ (m : length (putU64 n) < suc (suc k)). absurd (omega (arith, put-length-least k n (omega arith))))
+    (λ (m : suc (suc k) ≤ length (putU64 n)). omega (arith, put-length (suc k) n l))
+    (below (length (putU64 n)) (suc (suc k)))

@@ -10,6 +10,7 @@ pub mod text;
 pub mod utf8;
 
 ghost use mathlib.Core.Path.{_≡_};
+ghost use Prim.Native.Nat.{_+_, _≤_, _<_};
 ghost use lib.ListN.{length};
 ghost use lib.Seq.{sets};
 ghost use Rattle.varint.specs.Leb128.{getU64, putU64};
@@ -101,26 +102,76 @@ fn get_long(s: &[u8], at: usize) -> ReadU64
     ReadU64::Refused(Refusal::UnexpectedEof)
 }
 
-// How many bytes the varint of `value` has.
+// How many bytes the varint of `value` has. It is compared with each power of 128, least first: most numbers are small, and
+// nothing is divided.
 pub fn len_u64(value: u64) -> usize
     ensures { λ r. ⌜ r ≡ length (putU64 value) ⌝ }
 {
-    let mut v = value;
-    let mut n: usize = 1;
-    while 128 <= v {
-        v = v / 128;
-        n += 1;
+    if value < 0x80 {
+        return 1;
     }
-    n
+    if value < 0x4000 {
+        return 2;
+    }
+    if value < 0x20_0000 {
+        return 3;
+    }
+    if value < 0x1000_0000 {
+        return 4;
+    }
+    if value < 0x8_0000_0000 {
+        return 5;
+    }
+    if value < 0x400_0000_0000 {
+        return 6;
+    }
+    if value < 0x2_0000_0000_0000 {
+        return 7;
+    }
+    if value < 0x100_0000_0000_0000 {
+        return 8;
+    }
+    if value < 0x8000_0000_0000_0000 {
+        return 9;
+    }
+    MAX_LEN
 }
 
-// Stores the varint of `value` from place `at` on, as far as `out` goes, and returns how many bytes it has.
+// Stores the varint of `value` from place `at` on, as far as `out` goes, and returns how many bytes it has. Near the end of
+// `out` each byte is tested for its place, elsewhere none.
 pub fn put_u64(out: &mut [u8], at: usize, value: u64) -> usize
     ensures { λ r. ⌜ (r ≡ length (putU64 value)) × (now (out .exit) ≡ sets (now (out .entry)) at (putU64 value)) ⌝ }
 {
     if out.len() <= at {
         return len_u64(value);
     }
+    if MAX_LEN <= out.len() - at {
+        return put_free(out, at, value);
+    }
+    put_clipped(out, at, value)
+}
+
+// Stores the varint of `value` where there is room for any varint.
+fn put_free(out: &mut [u8], at: usize, value: u64) -> usize
+    requires { ⌜ at + 10 ≤ length (now out) ⌝ }
+    ensures { λ r. ⌜ (r ≡ length (putU64 value)) × (now (out .exit) ≡ sets (now (out .entry)) at (putU64 value)) ⌝ }
+{
+    let mut v = value;
+    let mut p = at;
+    while 128 <= v {
+        out[p] = (v % 128 + 128) as u8;
+        v = v / 128;
+        p += 1;
+    }
+    out[p] = v as u8;
+    p + 1 - at
+}
+
+// Stores the varint of `value` from a place inside on, as far as `out` goes.
+fn put_clipped(out: &mut [u8], at: usize, value: u64) -> usize
+    requires { ⌜ at < length (now out) ⌝ }
+    ensures { λ r. ⌜ (r ≡ length (putU64 value)) × (now (out .exit) ≡ sets (now (out .entry)) at (putU64 value)) ⌝ }
+{
     let mut v = value;
     let mut p = at;
     while 128 <= v {

@@ -1,33 +1,51 @@
-use borrow.Author.Needs.{needs}
-use mathlib.Core.Path.{_≡_, ap}
-use Prim.Native.Nat.{_+_, _/_}
+use mathlib.Core.Path.{sym, ap}
 use native.Mathlib.Omega.{arith}
 use lib.ListN.{length}
-use Rattle.varint.specs.Leb128.{putU64}
-use Rattle.varint.proofs.PutLaws.{put-small, put-big, put-length-64, put-some}
+use Rattle.varint.proofs.PutLaws.{put-small, put-length-is}
 use Rattle.varint.proofs.len_u64.Statement.{statement}
 use Rattle.varint.proofs.len_u64.Tie as tie
 
-abbrev Inv-loop : tie.InvT-loop
-Inv-loop value v₀ n₀ v n = n + length (putU64 v) ≡ 1 + length (putU64 value)
+returns : tie.Need-returns
+returns c = sym (ap length (put-small _ (c .if1 .taken)))
 
-abbrev μ-loop : tie.MeasureT-loop
-μ-loop value v₀ n₀ v n = v
+returns-2 : tie.Need-returns-2
+returns-2 c = put-length-is 0 _ (omega arith) (omega arith)
 
-loop-holds : tie.Need-loop-holds Inv-loop μ-loop
-loop-holds c = search needs
+returns-3 : tie.Need-returns-3
+returns-3 c = put-length-is 1 _ (omega arith) (omega arith)
 
-add-n : tie.Need-add-n Inv-loop μ-loop
-add-n c = omega (arith, ap length (put-big (c .before .loop .v) (c .loop-test .taken)), put-length-64 (c .before .before .args .value) (c .before .before .fits .value .fits), put-some (c .before .loop .v / 128))
+returns-4 : tie.Need-returns-4
+returns-4 c = put-length-is 2 _ (omega arith) (omega arith)
 
-loop-less : tie.Need-loop-less Inv-loop μ-loop
-loop-less c = search needs
+returns-5 : tie.Need-returns-5
+returns-5 c = put-length-is 3 _ (omega arith) (omega arith)
 
-loop-again : tie.Need-loop-again Inv-loop μ-loop
-loop-again c = omega (arith, ap length (put-big (c .before .loop .v) (c .loop-test .taken)))
+returns-6 : tie.Need-returns-6
+returns-6 c = put-length-is 4 _ (omega arith) (omega arith)
 
-returns : tie.Need-returns Inv-loop μ-loop
-returns c = omega (arith, ap length (put-small (c .before .loop .v) (c .loop-test .left)))
+returns-7 : tie.Need-returns-7
+returns-7 c = put-length-is 5 _ (omega arith) (omega arith)
+
+returns-8 : tie.Need-returns-8
+returns-8 c = put-length-is 6 _ (omega arith) (omega arith)
+
+returns-9 : tie.Need-returns-9
+returns-9 c = put-length-is 7 _ (omega arith) (omega arith)
+
+returns-10 : tie.Need-returns-10
+returns-10 c = put-length-is 8 _ (omega arith) (omega arith)
 
 pub len-u64-spec : {M : Type 1} → statement M
-len-u64-spec = tie.close (tie.spec Inv-loop μ-loop loop-holds add-n loop-less loop-again returns)
+len-u64-spec =
+    tie.close
+    (tie.spec
+    returns
+    returns-2
+    returns-3
+    returns-4
+    returns-5
+    returns-6
+    returns-7
+    returns-8
+    returns-9
+    returns-10)
