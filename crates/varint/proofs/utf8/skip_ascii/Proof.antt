@@ -21,6 +21,9 @@ further {s} {from} {p} h k l =
     (λ (m : p ≤ from). let e : p ≡ from = omega arith in absurd (omega (arith, ap (λ (q : ℕ). getD s q 0) e)))
     (below from p)
 
+passed-to : {s : List ℕ} {from p q : ℕ} → q ≡ p → Passed s from p → Passed s from q
+passed-to e h = rw e h
+
 abbrev Inv-loop : tie.InvT-loop
 Inv-loop s from p₀ p = Passed s from p
 
@@ -58,24 +61,41 @@ loop-again : tie.Need-loop-again Inv-loop μ-loop Inv-loop2 μ-loop2
 loop-again c = let block = c .before .before .all-below .ensures (not-false _ (c .before .if1 .left)) in
     passed-on _ (passed-on _ (c .before .before .before .before .loop .inv) block) (c .skip-blocks .ensures)
 
-loop2-holds : tie.Need-loop2-holds Inv-loop μ-loop Inv-loop2 μ-loop2
-loop2-holds c = c .before .loop .inv
+sub-if2 : tie.Need-sub-if2 Inv-loop μ-loop Inv-loop2 μ-loop2
+sub-if2 c = search needs
 
-shared-slice-read-if2 : tie.Need-shared-slice-read-if2 Inv-loop μ-loop Inv-loop2 μ-loop2
-shared-slice-read-if2 c = search needs
+add-all-below-2 : tie.Need-add-all-below-2 Inv-loop μ-loop Inv-loop2 μ-loop2
+add-all-below-2 c = search needs
 
-returns : tie.Need-returns Inv-loop μ-loop Inv-loop2 μ-loop2
-returns c = let l = c .before .before .before .loop2 in
-    (l .inv, further (l .inv) (c .before .before .before .before .before .before .before .pre .1) (c .if2 .taken))
+all-below-requires-2 : tie.Need-all-below-requires-2 Inv-loop μ-loop Inv-loop2 μ-loop2
+all-below-requires-2 c κs = search needs
 
 add-p : tie.Need-add-p Inv-loop μ-loop Inv-loop2 μ-loop2
 add-p c = search needs
+
+loop2-holds : tie.Need-loop2-holds Inv-loop μ-loop Inv-loop2 μ-loop2
+loop2-holds c =
+    let l = c .before .before .loop .inv in
+    ⊎-elim
+    (λ w. passed-to (w .3) (passed-on _ l (w .1 .ensures (w .2 .taken))))
+    (λ w. ⊎-elim (λ v. passed-to (v .3) l) (λ v. passed-to (v .1) l) w)
+    (c .if2 .came)
+
+shared-slice-read-if4 : tie.Need-shared-slice-read-if4 Inv-loop μ-loop Inv-loop2 μ-loop2
+shared-slice-read-if4 c = search needs
+
+returns : tie.Need-returns Inv-loop μ-loop Inv-loop2 μ-loop2
+returns c = let l = c .before .before .before .loop2 in
+    (l .inv, further (l .inv) (c .before .before .before .before .before .before .before .before .pre .1) (c .if4 .taken))
+
+add-p-2 : tie.Need-add-p-2 Inv-loop μ-loop Inv-loop2 μ-loop2
+add-p-2 c = search needs
 
 loop2-less : tie.Need-loop2-less Inv-loop μ-loop Inv-loop2 μ-loop2
 loop2-less c = search needs
 
 loop2-again : tie.Need-loop2-again Inv-loop μ-loop Inv-loop2 μ-loop2
-loop2-again c = passed-on _ (c .before .before .before .loop2 .inv) (passed-ascii _ _ (c .before .before .loop2-test .taken) (c .if2 .left))
+loop2-again c = passed-on _ (c .before .before .before .before .loop2 .inv) (passed-ascii _ _ (c .before .before .before .loop2-test .taken) (c .before .if4 .left))
 
 returns-2 : tie.Need-returns-2 Inv-loop μ-loop Inv-loop2 μ-loop2
 returns-2 c = (c .before .loop2 .inv, omega arith)
@@ -96,10 +116,14 @@ skip-ascii-spec =
     skip-blocks-requires
     loop-less
     loop-again
-    loop2-holds
-    shared-slice-read-if2
-    returns
+    sub-if2
+    add-all-below-2
+    all-below-requires-2
     add-p
+    loop2-holds
+    shared-slice-read-if4
+    returns
+    add-p-2
     loop2-less
     loop2-again
     returns-2)
