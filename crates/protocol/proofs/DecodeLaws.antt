@@ -2,29 +2,30 @@
 use mathlib.Core.Bool.{Bool, true, false, _&&_, and-false}
 use mathlib.Core.Path.{_≡_, refl, sym, _∙_, ap}
 use mathlib.Core.Logic.{_⊎_, ⊎-elim}
-use mathlib.Core.List.{List}
+use mathlib.Core.List.{List, [], _∷_}
 use Prim.Native.Nat.{ℕ, _≤_, _<_}
 use native.Mathlib.Omega.{arith}
 use lib.Dec.{ltb, leb, eqb}
 use lib.ListN.{length}
 use lib.Seq.{sets}
-use borrow.Author.Tests.{lt-ltb, le-ltb, le-leb, lt-leb, ne-eqb}
+use borrow.Author.Tests.{eqb-true, lt-ltb, le-ltb, le-leb, lt-leb, ne-eqb}
 use Rattle.varint.specs.Formats.{Got, got, bad}
 use Rattle.varint.specs.Stores.{part, clearFrom, filled}
 use Rattle.varint.specs.declared.error.Buffer.the-variants.{Text, Rows, Nodes}
 use Rattle.varint.specs.declared.error.Refusal.{Refusal}
 use Rattle.varint.specs.declared.error.Refusal.the-variants.{BlockTooLarge, TooSmall}
-use Rattle.varint.proofs.Basics.{clash}
+use Rattle.varint.proofs.Basics.{clash, both}
 use Rattle.varint.proofs.StoreLaws.{part-all, filled-steps}
 use Rattle.protocol.specs.Decoding.{Left, kept, fitted, settled, decodeMessage}
 use Rattle.protocol.specs.Laying.{Laid}
-use Rattle.protocol.specs.Loading.{outcome, laidAs, told, Reads}
+use Rattle.protocol.specs.Loading.{outcome, laidAs, told, bare, Reads, ReadsBare, ReadsEntry}
 use Rattle.protocol.specs.Said.{Said, opaque, readEntry, readMessage, lay}
 use Rattle.protocol.specs.declared.message.Answer.the-variants.{Accepted}
 use Rattle.protocol.specs.declared.message.Message.{Message}
 use Rattle.protocol.specs.declared.message.Message.the-variants as Msg
 use Rattle.protocol.specs.declared.read.Found.{Found}
 use Rattle.protocol.specs.declared.read.Found.the-variants as F
+use Rattle.protocol.proofs.MessageReads.{bare-text}
 use Rattle.protocol.proofs.MessageSkims.{entry-skims}
 
 -- What fits in the lent memory
@@ -107,6 +108,23 @@ second-read : (l : Laid) (q : ℕ) (tx rs nd : List ℕ) {tx₁ rs₁ nd₁ : Li
 unfolding told outcome
 second-read l q tx rs nd (F.Read message t r k) e = (cc, cc, cc)
 second-read l q tx rs nd (F.Refused r) e = let z : _≡_ {A = ℕ} 0 1 = cc in absurd (omega arith)
+
+-- what takes no memory need not be stored
+sets-none : (d x : List ℕ) → length x ≡ 0 → d ≡ sets d 0 x
+sets-none d [] h = refl
+sets-none d (y ∷ ys) h = absurd (omega arith)
+
+pub all-none : (t r k : ℕ) → (eqb t 0 && eqb r 0 && eqb k 0) ≡ true → (t ≡ 0) × (r ≡ 0) × (k ≡ 0)
+all-none t r k h =
+    let a = both (eqb t 0 && eqb r 0) (eqb k 0) h in
+    let b = both (eqb t 0) (eqb r 0) (a .0) in
+    (eqb-true t 0 (b .0), eqb-true r 0 (b .1), eqb-true k 0 (a .1))
+
+-- a message of numbers alone takes none
+bare-takes : (g : Got Laid) {x : Found} {message : Message} {t r k : ℕ} → ReadsBare g x → x ≡ F.Read message t r k → (t ≡ 0) × (r ≡ 0) × (k ≡ 0)
+unfolding bare
+bare-takes (got l q) h i = let e = sym i ∙ h .is in (cc (e), cc (e), cc (e))
+bare-takes (bad r) h i = let e = sym i ∙ h .is in let z : _≡_ {A = ℕ} 0 1 = cc (e) in absurd (omega arith)
 
 -- Which entries name a message
 
@@ -195,3 +213,27 @@ module _ (max limit entry : ℕ) (s tx rs nd : List ℕ) where
             let q = read .next in
             let w = second-read (lay m) q tx rs nd x₂ (second .is ∙ ap (λ (d : Got Said). outcome false (laidAs lay d) tx rs nd) (entry-skims limit entry s m q (read .is))) in
             rw (read .says) (fitted-all (read .takes) tx rs nd a b c (w .0) (w .1) (w .2) e f g ∙ read-fitted)
+
+        pub decode-none : t ≡ 0 → r ≡ 0 → k ≡ 0 → {tx₂ rs₂ nd₂ : List ℕ} → tx₂ ≡ clearFrom tx 0 → rs₂ ≡ clearFrom rs 0 → nd₂ ≡ clearFrom nd 0
+            → Decoded (record { answer = Accepted message; text = tx₂; rows = rs₂; nodes = nd₂ })
+        decode-none a b c e f g =
+            let l = lay (read .value) in
+            let z = read .takes in
+            rw (read .says)
+            (fitted-all z tx rs nd (omega arith) (omega arith) (omega arith)
+            (sets-none tx (l .piece .text) (sym (z .text) ∙ a)) (sets-none rs (l .piece .rows 0 0) (sym (z .rows) ∙ b)) (sets-none nd (l .piece .nodes 0 0) (sym (z .nodes) ∙ c))
+            (e ∙ ap (clearFrom tx) (sym a)) (f ∙ ap (clearFrom rs) (sym b)) (g ∙ ap (clearFrom nd) (sym c))
+            ∙ read-fitted)
+
+    -- a message of numbers alone is read once
+    module _ {x : Found} (h : ReadsEntry entry s x) where
+      once : Reads true (laidAs lay (readEntry true limit entry s)) tx rs nd x tx rs nd
+      once = bare-text true tx (laidAs lay (readEntry true limit entry s)) (h .empty limit) (h .reads limit) .is rs nd
+
+      pub decode-bare-refused : {e : Refusal} → x ≡ F.Refused e → Decoded (kept e tx rs nd)
+      decode-bare-refused i = decode-refused once i
+
+      pub decode-bare-read : {message : Message} {t r k : ℕ} → x ≡ F.Read message t r k → {tx₂ rs₂ nd₂ : List ℕ}
+          → tx₂ ≡ clearFrom tx 0 → rs₂ ≡ clearFrom rs 0 → nd₂ ≡ clearFrom nd 0
+          → Decoded (record { answer = Accepted message; text = tx₂; rows = rs₂; nodes = nd₂ })
+      decode-bare-read i e f g = let z = bare-takes (laidAs lay (readEntry true limit entry s)) (h .reads limit) i in decode-none once i (z .0) (z .1) (z .2) e f g

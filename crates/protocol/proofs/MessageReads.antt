@@ -1,6 +1,7 @@
 -- A message that was read, or not, as its reader tells it.
 use mathlib.Core.Bool.{Bool, true, false}
-use mathlib.Core.Path.{_≡_, refl, sym, ap}
+use mathlib.Core.Logic.{⊎-elim}
+use mathlib.Core.Path.{_≡_, refl, sym, ap, _∙_}
 use mathlib.Core.List.{List}
 use Prim.Native.Nat.{ℕ, _+_, _-_, _≤_}
 use lib.Dec.{ltb}
@@ -13,10 +14,10 @@ use Rattle.varint.specs.declared.error.Refusal.{Refusal}
 use Rattle.varint.specs.declared.error.Refusal.the-variants.{TrailingBytes}
 use Rattle.varint.proofs.FormatParts.{went, got-of, no-got}
 use Rattle.protocol.specs.Laying.{Laid}
-use Rattle.protocol.specs.Loading.{stored, outcome, laidAs, told, bare, ReadsBare, ReadsText, layFinished}
+use Rattle.protocol.specs.Loading.{stored, outcome, laidAs, told, bare, ReadsBare, ReadsText, ReadsEntry, BareEntry, layFinished}
 use Rattle.protocol.specs.Pieces.{none, words, _⊕_}
 use Rattle.protocol.specs.Reply.{removed, finish, layReply}
-use Rattle.protocol.specs.Said.{Said, saying, lay}
+use Rattle.protocol.specs.Said.{Said, saying, readEntry, lay}
 use Rattle.protocol.specs.Wholes.{ended}
 use Rattle.protocol.specs.declared.read.Found.{Found}
 use Rattle.protocol.specs.declared.read.Found.the-variants.{Read, Refused}
@@ -86,5 +87,19 @@ laid-bare layA none-is g l q e =
 pub past : (k : ℕ) {e : ℕ} → k ≤ e → (e ≡ k → ⊥) → k + 1 ≤ e
 past k h n = omega (arith, n)
 
-pub twelve : {e : ℕ} → 12 ≤ e → e ≤ 12 → e ≡ 12
-twelve h k = omega arith
+pub eleven : {e : ℕ} → 11 ≤ e → e ≤ 11 → e ≡ 11
+eleven h k = omega arith
+
+pub under-twelve : {e : ℕ} → e ≤ 12 → (e ≡ 12 → ⊥) → e ≤ 11
+under-twelve h n = omega (arith, n)
+
+pub last-bare : {e : ℕ} → BareEntry e → (e ≡ 2 → ⊥) → (e ≡ 4 → ⊥) → e ≡ 12
+last-bare h a b = ⊎-elim (λ z. absurd (a z)) (⊎-elim (λ z. absurd (b z)) (λ z. z)) h
+
+-- a message of numbers alone, by the entry that names it
+pub entry-bare : {A : Type 0} (to : A → Said) (layA : A → Laid) → ((a : A) → lay (to a) ≡ layA a) → ((a : A) → layA a .piece ≡ none)
+    → {entry : ℕ} {s : List ℕ} {x : Found} (g : Got A) → ((limit : ℕ) → readEntry true limit entry s ≡ saying to g)
+    → ReadsBare (laidAs layA g) x → ReadsEntry entry s x
+entry-bare to layA same none-is {entry} {s} g h r =
+    let e : (limit : ℕ) → laidAs lay (readEntry true limit entry s) ≡ laidAs layA g = λ limit. ap (laidAs lay) (h limit) ∙ said-laid to layA same g in
+    record { reads = λ limit. rw (e limit) r; empty = λ limit l q i. laid-bare layA none-is g l q (sym (e limit) ∙ i) }

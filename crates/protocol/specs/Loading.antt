@@ -24,9 +24,10 @@ use Rattle.protocol.specs.Fetch.{pair}
 use Rattle.protocol.specs.Fields.{narrow, mode, bit, wideFlag, descriptor, Optional, optional}
 use Rattle.protocol.specs.Ids.{layId}
 use Rattle.protocol.specs.Laying.{Laid}
-use Rattle.protocol.specs.Pieces.{Piece, cells, tree, _⊕_, many}
+use Rattle.protocol.specs.Pieces.{Piece, none, cells, tree, _⊕_, many}
 use Rattle.protocol.specs.Profile.{step, layStep}
 use Rattle.protocol.specs.Reply.{Finished, finished, layReply}
+use Rattle.protocol.specs.Said.{readEntry, lay}
 use Rattle.protocol.specs.Startup.{Claim, claim, layClaim}
 use Rattle.protocol.specs.Types.{predicate, hasValue, layValue, layPredicate}
 use Rattle.protocol.specs.declared.message.Message.{Message}
@@ -203,3 +204,19 @@ pub record SessionRead (check : Bool) (version len : ℕ) (g : Got (Mode × (ℕ
 -- an entry that names no message
 abbrev pub Opaque : ℕ → Type 0
 Opaque entry = (entry ≡ 0) ⊎ (12 < entry)
+
+-- an entry that names a message of numbers alone: ready, complete, listing digest
+abbrev pub BareEntry : ℕ → Type 0
+BareEntry entry = (entry ≡ 2) ⊎ ((entry ≡ 4) ⊎ (entry ≡ 12))
+
+-- such a message is read as it is laid out, at any depth of descriptors, and takes no memory
+pub record ReadsEntry (entry : ℕ) (s : List ℕ) (x : Found) : Type 0 where
+  pub reads : (limit : ℕ) → ReadsBare (laidAs lay (readEntry true limit entry s)) x
+  pub empty : (limit : ℕ) (l : Laid) (q : ℕ) → laidAs lay (readEntry true limit entry s) ≡ got l q → l .piece ≡ none
+
+-- an entry that names one of the others, which take memory
+pub record RoomyEntry (entry : ℕ) : Type 0 where
+  pub some : 0 < entry
+  pub most : entry ≤ 11
+  pub ready : entry ≡ 2 → ⊥
+  pub complete : entry ≡ 4 → ⊥

@@ -1,7 +1,7 @@
 // The session messages of fjord (protocol.rs): what a frame's payload means, read into lent memory.
 //
 // A message is read twice: once to see whether it is one and how much memory it takes, and once to store it. Both are one function, which is
-// lent small buffers of its own the first time. UTF-8 is checked in the first reading only.
+// lent small buffers of its own the first time. UTF-8 is checked in the first reading only. A message that takes no memory is read once.
 mod fields;
 pub mod message;
 mod read;
@@ -12,7 +12,8 @@ ghost use Prim.Native.Nat.{_≤_, _<_};
 ghost use lib.ListN.{length};
 ghost use Rattle.varint.specs.declared.error.Refusal.the-variants.{TooSmall};
 ghost use Rattle.protocol.specs.Decoding.{decodeMessage};
-ghost use Rattle.protocol.specs.Loading.{Opaque};
+ghost use Rattle.varint.specs.Stores.{clearFrom};
+ghost use Rattle.protocol.specs.Loading.{Opaque, BareEntry, RoomyEntry};
 ghost use Rattle.protocol.specs.declared.message.Answer.the-variants as Ans;
 use desc::MAX_DEPTH;
 use desc::MAX_PAYLOAD;
@@ -20,6 +21,7 @@ use message::Answer;
 use message::Message;
 use message::Span;
 use read::Found;
+use read::read_bare;
 use read::read_message;
 use varint::error::Buffer;
 use varint::error::Refusal;
@@ -34,6 +36,15 @@ fn too_small(which: Buffer, needed: usize) -> Answer
         which,
         needed: needed as u64,
     })
+}
+
+// Zeros behind what a message takes of each buffer.
+fn clear_behind(text: &mut [u8], t: usize, rows: &mut [u64], r: usize, nodes: &mut [u64], k: usize)
+    ensures { λ _. ⌜ (now (text .exit) ≡ clearFrom (now (text .entry)) t) × (now (rows .exit) ≡ clearFrom (now (rows .entry)) r) × (now (nodes .exit) ≡ clearFrom (now (nodes .entry)) k) ⌝ }
+{
+    clear_bytes(text, t);
+    clear_numbers(rows, r);
+    clear_numbers(nodes, k);
 }
 
 // A payload that is no message is one text, whatever its bytes.
@@ -54,15 +65,40 @@ fn decode_opaque(
         return too_small(Buffer::Text, len);
     }
     copy_bytes(payload, 0, len, text, 0);
-    clear_bytes(text, len);
-    clear_numbers(rows, 0);
-    clear_numbers(nodes, 0);
+    clear_behind(text, len, rows, 0, nodes, 0);
     Answer::Accepted(Message::Opaque {
         payload: Span {
             start: 0,
             len: len as u64,
         },
     })
+}
+
+// A message of numbers alone takes no memory: nothing is stored, and what was lent is cleared.
+fn decode_bare(
+    entry: u8,
+    payload: &[u8],
+    max: u64,
+    limit: u64,
+    text: &mut [u8],
+    rows: &mut [u64],
+    nodes: &mut [u64],
+) -> Answer
+    requires { ⌜ BareEntry entry × (length (now payload) ≤ max) ⌝ }
+    ensures { λ r. ⌜ record { answer = r; text = now (text .exit); rows = now (rows .exit); nodes = now (nodes .exit) } ≡ decodeMessage max limit entry (now (payload .entry)) (now (text .entry)) (now (rows .entry)) (now (nodes .entry)) ⌝ }
+{
+    match read_bare(entry, payload) {
+        Found::Refused(e) => Answer::Refused(e),
+        Found::Read {
+            message,
+            text: _,
+            rows: _,
+            nodes: _,
+        } => {
+            clear_behind(text, 0, rows, 0, nodes, 0);
+            Answer::Accepted(message)
+        }
+    }
 }
 
 // A message that fits what was lent is stored, and what it does not fill is cleared.
@@ -75,7 +111,7 @@ fn decode_fitting(
     rows: &mut [u64],
     nodes: &mut [u64],
 ) -> Answer
-    requires { ⌜ (0 < entry) × (entry ≤ 12) × (length (now payload) ≤ max) × (max ≤ 4294967296) ⌝ }
+    requires { ⌜ RoomyEntry entry × (length (now payload) ≤ max) × (max ≤ 4294967296) ⌝ }
     ensures { λ r. ⌜ record { answer = r; text = now (text .exit); rows = now (rows .exit); nodes = now (nodes .exit) } ≡ decodeMessage max limit entry (now (payload .entry)) (now (text .entry)) (now (rows .entry)) (now (nodes .entry)) ⌝ }
 {
     let mut a = [0u8; 1];
@@ -98,10 +134,12 @@ fn decode_fitting(
             if nodes.len() < k {
                 return too_small(Buffer::Nodes, k);
             }
+            if (t == 0) & (r == 0) & (k == 0) {
+                clear_behind(text, 0, rows, 0, nodes, 0);
+                return Answer::Accepted(message);
+            }
             read_message(entry, payload, false, limit, text, rows, nodes);
-            clear_bytes(text, t);
-            clear_numbers(rows, r);
-            clear_numbers(nodes, k);
+            clear_behind(text, t, rows, r, nodes, k);
             Answer::Accepted(message)
         }
     }
@@ -133,7 +171,10 @@ fn decode_within(
             max,
         });
     }
-    decode_fitting(entry, payload, max, limit, text, rows, nodes)
+    match entry {
+        2 | 4 | 12 => decode_bare(entry, payload, max, limit, text, rows, nodes),
+        _ => decode_fitting(entry, payload, max, limit, text, rows, nodes),
+    }
 }
 
 // The message that an entry of the kind table names, 1 to 12, or an opaque payload for any other.

@@ -11,7 +11,7 @@ ghost use Rattle.varint.specs.Choice.{pick};
 ghost use Rattle.varint.specs.Formats.{got};
 ghost use Rattle.varint.specs.Utf8.{utf8};
 ghost use Rattle.desc.specs.Layout.{width};
-ghost use Rattle.protocol.specs.Loading.{stored, laidAs, ReadsBare, Reads, ReadsText, layFinished, session, SessionRead};
+ghost use Rattle.protocol.specs.Loading.{stored, laidAs, ReadsBare, Reads, ReadsText, ReadsEntry, BareEntry, RoomyEntry, layFinished, session, SessionRead};
 ghost use Rattle.protocol.specs.Wholes.{ended};
 ghost use Rattle.protocol.specs.declared.message.ControlOp.the-variants.{Create};
 ghost use Rattle.protocol.specs.Complete.{readComplete, layComplete};
@@ -662,7 +662,19 @@ pub(crate) fn read_startup(
     }
 }
 
-// Message `entry` of a payload.
+// Message `entry` of a payload, one of those that have numbers alone.
+pub(crate) fn read_bare(entry: u8, s: &[u8]) -> Found
+    requires { ⌜ BareEntry entry ⌝ }
+    ensures { λ x. ⌜ ReadsEntry entry (now (s .entry)) x ⌝ }
+{
+    match entry {
+        2 => read_ready(s),
+        4 => read_complete(s),
+        _ => read_listing_digest(s),
+    }
+}
+
+// Message `entry` of a payload, one of the others.
 pub(crate) fn read_message(
     entry: u8,
     s: &[u8],
@@ -672,21 +684,18 @@ pub(crate) fn read_message(
     rows: &mut [u64],
     nodes: &mut [u64],
 ) -> Found
-    requires { ⌜ (0 < entry) × (entry ≤ 12) × (length (now s) ≤ 4294967296) ⌝ }
+    requires { ⌜ RoomyEntry entry × (length (now s) ≤ 4294967296) ⌝ }
     ensures { λ x. ⌜ Reads check (laidAs lay (readEntry check limit entry (now (s .entry)))) (now (text .entry)) (now (rows .entry)) (now (nodes .entry)) x (now (text .exit)) (now (rows .exit)) (now (nodes .exit)) ⌝ }
 {
     match entry {
         1 => read_startup(s, check, text, rows, nodes),
-        2 => read_ready(s),
         3 => read_error(s, check, text),
-        4 => read_complete(s),
         5 => read_ids(s, check, text, rows, nodes),
         6 => read_types(s, check, limit, text, rows, nodes),
         7 => read_control(s, check, text),
         8 => read_control_reply(s, check, text),
         9 => read_profile(s, check, text, rows, nodes),
         10 => read_page(s, check, text),
-        11 => read_fetch(s, check, text, rows, nodes),
-        _ => read_listing_digest(s),
+        _ => read_fetch(s, check, text, rows, nodes),
     }
 }
