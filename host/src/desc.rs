@@ -25,6 +25,13 @@ pub struct Desc<'m> {
 }
 
 /// What a descriptor is. Its children are collected, since there are few.
+///
+/// ```
+/// use fjord_gateway::{decode_desc, DescKind, Memory};
+/// let mut memory = Memory::for_payload(2);
+/// assert_eq!(decode_desc(&[3, 0], memory.lend())?.0.kind(), DescKind::Record(vec![]));
+/// # Ok::<(), fjord_gateway::Refusal>(())
+/// ```
 #[derive(Clone, Debug, PartialEq)]
 pub enum DescKind<'m> {
     /// A number.
@@ -42,6 +49,14 @@ pub enum DescKind<'m> {
 }
 
 /// A field of a record.
+///
+/// ```
+/// use fjord_gateway::{decode_desc, DescKind, Memory};
+/// let mut memory = Memory::for_payload(7);
+/// let DescKind::Record(fields) = decode_desc(b"\x03\x01\x03mg/\x00", memory.lend())?.0.kind() else { panic!() };
+/// assert_eq!((fields[0].name, fields[0].desc.kind()), ("mg/", DescKind::Int));
+/// # Ok::<(), fjord_gateway::Refusal>(())
+/// ```
 #[derive(Clone, Debug, PartialEq)]
 pub struct Field<'m> {
     /// Its name.
@@ -51,6 +66,14 @@ pub struct Field<'m> {
 }
 
 /// An alternative of a union.
+///
+/// ```
+/// use fjord_gateway::{decode_desc, DescKind, Memory};
+/// let mut memory = Memory::for_payload(9);
+/// let DescKind::Union(ways) = decode_desc(b"\x04\x01\x04oral\x02\x05", memory.lend())?.0.kind() else { panic!() };
+/// assert_eq!((ways[0].name, ways[0].discriminant, ways[0].desc.kind()), ("oral", 2, DescKind::Bytes));
+/// # Ok::<(), fjord_gateway::Refusal>(())
+/// ```
 #[derive(Clone, Debug, PartialEq)]
 pub struct Alternative<'m> {
     /// Its name.

@@ -229,7 +229,14 @@ impl Draft {
         d
     }
 
-    /// The predicates that a session can name: see [`PredicateShape`] for an example.
+    /// The predicates that a session can name.
+    ///
+    /// ```
+    /// use fjord_gateway::{Draft, PredicateShape, Shape};
+    /// let dose = PredicateShape { id: 3, name: "p", is_virtual: false, key: Shape::Int, value: Some(Shape::String) };
+    /// assert_eq!(Draft::types([dose]).to_vec()?, [1, 3, 1, b'p', 0, 0, 1, 1]);
+    /// # Ok::<(), fjord_gateway::Refusal>(())
+    /// ```
     pub fn types<'a>(types: impl IntoIterator<Item = PredicateShape<'a>>) -> Self {
         let mut d = Draft::new(MessageKind::Types, [0; 6]);
         for p in types {

@@ -3,6 +3,13 @@ use crate::ffi;
 use crate::refusal::Refusal;
 
 /// A frame's header.
+///
+/// ```
+/// use fjord_gateway::{decode_header, FrameHeader};
+/// let header = decode_header(&[b'C', 7, 0, 0, 0, 2, 0, 0, 0])?;
+/// assert_eq!(header, FrameHeader { kind: b'C', stream: 7, length: 2 });
+/// # Ok::<(), fjord_gateway::Refusal>(())
+/// ```
 #[derive(Clone, Copy, Debug, PartialEq, Eq, Hash)]
 pub struct FrameHeader {
     /// What kind of message the frame carries.

@@ -27,7 +27,6 @@
 mod decode;
 mod desc;
 mod encode;
-#[allow(missing_docs)]
 pub mod ffi;
 mod frame;
 mod memory;

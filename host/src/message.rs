@@ -11,11 +11,22 @@ macro_rules! numbered {
 
         impl $name {
             /// By its number, if there is one.
+            ///
+            /// ```
+            #[doc = concat!("use fjord_gateway::", stringify!($name), ";")]
+            $(#[doc = concat!("assert_eq!(", stringify!($name), "::from_number(", stringify!($n), "), Some(", stringify!($name), "::", stringify!($case), "));")])+
+            #[doc = concat!("assert_eq!(", stringify!($name), "::from_number(13), None);")]
+            /// ```
             pub const fn from_number(n: u64) -> Option<Self> {
                 match n { $($n => Some($name::$case),)+ _ => None }
             }
 
             /// Its number.
+            ///
+            /// ```
+            #[doc = concat!("use fjord_gateway::", stringify!($name), ";")]
+            $(#[doc = concat!("assert_eq!(", stringify!($name), "::", stringify!($case), ".number(), ", stringify!($n), ");")])+
+            /// ```
             pub const fn number(self) -> u64 {
                 self as u64
             }
@@ -267,11 +278,19 @@ pub struct FactId(pub u64);
 
 impl FactId {
     /// Its predicate.
+    ///
+    /// ```
+    /// assert_eq!(fjord_gateway::FactId(7 << 40).predicate(), 7);
+    /// ```
     pub const fn predicate(self) -> u32 {
         (self.0 >> 40) as u32
     }
 
     /// Its number among the predicate's facts.
+    ///
+    /// ```
+    /// assert_eq!(fjord_gateway::FactId(7 << 40 | 300).sequence(), 300);
+    /// ```
     pub const fn sequence(self) -> u64 {
         self.0 & ((1 << 40) - 1)
     }
@@ -323,6 +342,14 @@ macro_rules! rows {
 }
 
 /// A predicate that a client claims to know.
+///
+/// ```
+/// use fjord_gateway::{Claim, Draft, Mode};
+/// let claim = Claim { name: "Drug", fingerprint: 9 };
+/// let payload = Draft::startup(4, "", Mode::ReadOnly, 0, [claim]).to_vec()?;
+/// assert_eq!(payload, [4, 0, 0, 0, 1, 4, b'D', b'r', b'u', b'g', 9]);
+/// # Ok::<(), fjord_gateway::Refusal>(())
+/// ```
 #[derive(Clone, Copy, Debug, PartialEq, Eq)]
 pub struct Claim<'m> {
     /// Its name.
@@ -347,6 +374,17 @@ rows! {
 }
 
 /// A predicate that a session can name.
+///
+/// ```
+/// use fjord_gateway::{decode, DescKind, Memory, Message, MessageKind};
+/// let payload = [1, 7, 4, b'D', b'r', b'u', b'g', 1, 0, 1, 5];
+/// let mut memory = Memory::for_payload(payload.len());
+/// let Message::Types { mut types } = decode(MessageKind::Types, &payload, memory.lend())? else { panic!() };
+/// let drug = types.next().unwrap();
+/// assert!(drug.is_virtual);
+/// assert_eq!((drug.key.kind(), drug.value.unwrap().kind()), (DescKind::Int, DescKind::Bytes));
+/// # Ok::<(), fjord_gateway::Refusal>(())
+/// ```
 #[derive(Clone, Copy, Debug, PartialEq)]
 pub struct Predicate<'m> {
     /// Its id.
@@ -386,6 +424,13 @@ rows! {
 }
 
 /// A step of a query's plan.
+///
+/// ```
+/// use fjord_gateway::{Draft, Step};
+/// let step = Step { label: "scan", examined: 300, full_scan: false };
+/// assert_eq!(Draft::profile([step]).to_vec()?, b"\x01\x04scan\xAC\x02\x00");
+/// # Ok::<(), fjord_gateway::Refusal>(())
+/// ```
 #[derive(Clone, Copy, Debug, PartialEq, Eq)]
 pub struct Step<'m> {
     /// What it does.

@@ -7,6 +7,16 @@ use crate::refusal::Refusal;
 use crate::tables::KindTable;
 
 /// A frame that was handed out, with its message or why that was refused.
+///
+/// ```
+/// use fjord_gateway::{Frame, KindTable, Memory, Message, Receiver};
+/// let (mut hold, mut memory) = ([0; 8], Memory::new(8, 0, 0));
+/// let mut receiver = Receiver::open(&KindTable::from_server(), &mut hold);
+/// let mut piece = b"C\x01\0\0\0\x02\0\0\0\x05\x06".as_slice();
+/// let Frame { header, message } = receiver.next(&mut piece, memory.lend())?.unwrap();
+/// assert_eq!((header.kind, message), (b'C', Ok(Message::Complete { first: 5, second: 6 })));
+/// # Ok::<(), fjord_gateway::Refusal>(())
+/// ```
 #[derive(Clone, Debug, PartialEq)]
 pub struct Frame<'m> {
     /// Its kind, stream and length.
@@ -18,7 +28,23 @@ pub struct Frame<'m> {
 /// Takes a run of bytes in pieces, in whatever way it was cut, and hands out its frames.
 ///
 /// It keeps what it holds of an unfinished frame in `hold`, which must have room for the longest payload that is expected: a longer one stops the run by
-/// 16(4). The example of the crate shows the loop over pieces and frames.
+/// 16(4).
+///
+/// ```
+/// use fjord_gateway::{KindTable, Memory, Message, Receiver};
+/// let (mut hold, mut memory) = ([0; 32], Memory::new(32, 0, 0));
+/// let mut receiver = Receiver::open(&KindTable::from_server(), &mut hold);
+/// let run = b"E\x01\0\0\0\x12\0\0\0\x08\x10Morphine sulfateE\x01\0\0\0\x09\0\0\0\x08\x07Insulin";
+/// let mut shown = Vec::new();
+/// for mut piece in run.chunks(5) {
+///     while let Some(frame) = receiver.next(&mut piece, memory.lend())? {
+///         let Ok(Message::Error { text, .. }) = frame.message else { panic!() };
+///         shown.push(text.to_string());
+///     }
+/// }
+/// assert_eq!(shown, ["Morphine sulfate", "Insulin"]);
+/// # Ok::<(), fjord_gateway::Refusal>(())
+/// ```
 #[derive(Debug)]
 pub struct Receiver<'h> {
     state: ffi::Receiver,

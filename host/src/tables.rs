@@ -5,6 +5,12 @@ use crate::message::MessageKind;
 ///
 /// The two directions of a session have tables of their own, because `G` means two things: a client asks for a page by it, a server opens a
 /// copy.
+///
+/// ```
+/// use fjord_gateway::{KindTable, MessageKind};
+/// assert_eq!(KindTable::from_client().message(b'G'), Some(MessageKind::Page));
+/// assert_eq!(KindTable::from_server().message(b'G'), None);
+/// ```
 #[derive(Clone, Debug, PartialEq, Eq)]
 pub struct KindTable {
     entries: [u8; 256],
