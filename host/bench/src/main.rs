@@ -1,6 +1,7 @@
 //! Time of the proved library beside the original Rust on the same bytes, both release, turn by turn in one run: the best of several rounds.
 //!
-//! The library is lent buffers of the message's own size, and of 64 KiB (or the message's size where that is more), which it clears behind the message.
+//! The library is lent buffers of the message's own size, and of 64 KiB (or the message's size where that is more), which it clears behind the message. All is
+//! measured several times over; a row is of the run with the median ratio.
 mod payloads;
 mod session;
 
@@ -49,9 +50,51 @@ pub fn best(sides: &mut [&mut dyn FnMut()]) -> Vec<f64> {
     least
 }
 
-pub fn row(what: &str, times: &[f64]) {
-    let [rust, own, large] = times else { panic!("three sides") };
-    println!("| {what} | {rust:.0} | {own:.0} | {large:.0} | {:.2} | {:.2} |", own / rust, large / rust);
+/// A row of a table: what was measured, and the nanoseconds of the three sides in each run.
+pub struct Row {
+    what: String,
+    runs: Vec<[f64; 3]>,
+}
+
+/// A table: its heading, and its rows in the order in which they were first measured.
+pub struct Table {
+    heading: String,
+    rows: Vec<Row>,
+}
+
+impl Table {
+    pub fn new(heading: String) -> Self {
+        Table { heading, rows: Vec::new() }
+    }
+
+    /// Adds a run to the row of this name.
+    pub fn add(&mut self, what: String, times: &[f64]) {
+        let times: [f64; 3] = times.try_into().expect("three sides");
+        match self.rows.iter_mut().find(|row| row.what == what) {
+            Some(row) => row.runs.push(times),
+            None => self.rows.push(Row { what, runs: vec![times] }),
+        }
+    }
+
+    /// Each row by its run with the median ratio, and the least and the greatest ratio beside it.
+    fn print(mut self) {
+        println!(
+            "\n| {} | ratio | least to greatest | ratio with the larger memory |\n|---|---|---|---|---|---|---|",
+            self.heading
+        );
+        for row in &mut self.rows {
+            let ratio = |[rust, own, _]: &[f64; 3]| own / rust;
+            row.runs.sort_by(|a, b| ratio(a).total_cmp(&ratio(b)));
+            let median @ [rust, own, large] = row.runs[row.runs.len() / 2];
+            let (least, greatest) = (ratio(&row.runs[0]), ratio(&row.runs[row.runs.len() - 1]));
+            println!(
+                "| {} | {rust:.0} | {own:.0} | {large:.0} | **{:.2}** | {least:.2} to {greatest:.2} | {:.2} |",
+                row.what,
+                ratio(&median),
+                large / rust
+            );
+        }
+    }
 }
 
 /// The three buffers, at the message's size or larger.
@@ -59,18 +102,19 @@ struct Lent {
     text: Vec<u8>,
     rows: Vec<u64>,
     nodes: Vec<u64>,
+    answer: ffi::Answer,
 }
 
 impl Lent {
     fn new(text: usize, rows: usize, nodes: usize) -> Self {
-        Lent { text: vec![0; text], rows: vec![0; rows], nodes: vec![0; nodes] }
+        Lent { text: vec![0; text], rows: vec![0; rows], nodes: vec![0; nodes], answer: [0; 16] }
     }
 
     /// The least that the message fits, by what the library asks for.
     fn exact(entry: u64, payload: &[u8]) -> Self {
         let mut lent = Lent::new(0, 0, 0);
         loop {
-            let answer = lent.decode(entry, payload);
+            let answer = *lent.decode(entry, payload);
             match (answer[0], answer[1]) {
                 (0, _) => return lent,
                 (16, 1) => lent.text.resize(answer[2] as usize, 0),
@@ -86,8 +130,7 @@ impl Lent {
         Lent::new(self.text.len().max(65536), self.rows.len().max(8192), self.nodes.len().max(8192))
     }
 
-    fn decode(&mut self, entry: u64, payload: &[u8]) -> ffi::Answer {
-        let mut answer = [0; 16];
+    fn decode(&mut self, entry: u64, payload: &[u8]) -> &ffi::Answer {
         // SAFETY: each pointer comes with its length.
         unsafe {
             ffi::fjord_decode(
@@ -100,14 +143,13 @@ impl Lent {
                 self.rows.len(),
                 self.nodes.as_mut_ptr(),
                 self.nodes.len(),
-                &mut answer,
+                &mut self.answer,
             )
         };
-        answer
+        &self.answer
     }
 
-    fn encode(&self, number: u64, fields: &[u64; 6], out: &mut [u8]) -> u64 {
-        let mut answer = [0; 16];
+    fn encode(&self, number: u64, fields: &[u64; 6], out: &mut [u8], answer: &mut ffi::Answer) -> u64 {
         // SAFETY: each pointer comes with its length.
         unsafe {
             ffi::fjord_encode(
@@ -121,14 +163,13 @@ impl Lent {
                 self.nodes.len(),
                 out.as_mut_ptr(),
                 out.len(),
-                &mut answer,
+                answer,
             )
         }
     }
 }
 
-fn decoding(samples: &[Sample]) {
-    println!("\n| decode | Rust ns | at the message's size | at 64 KiB | ratio | ratio at 64 KiB |\n|---|---|---|---|---|---|");
+fn decoding(samples: &[Sample], table: &mut Table) {
     for s in samples {
         let mut own = Lent::exact(s.number, &s.payload);
         let mut large = own.large();
@@ -141,19 +182,19 @@ fn decoding(samples: &[Sample]) {
                 black_box(large.decode(s.number, black_box(&s.payload)));
             },
         ]);
-        row(&format!("{}, {} bytes", s.name, s.payload.len()), &times);
+        table.add(format!("{}, {} bytes", s.name, s.payload.len()), &times);
     }
 }
 
-fn encoding(samples: &[Sample]) {
-    println!("\n| encode | Rust ns | at the message's size | at 64 KiB | ratio | ratio at 64 KiB |\n|---|---|---|---|---|---|");
+fn encoding(samples: &[Sample], table: &mut Table) {
     for s in samples {
         let mut own = Lent::exact(s.number, &s.payload);
-        let answer = own.decode(s.number, &s.payload);
+        let answer = *own.decode(s.number, &s.payload);
         let fields: [u64; 6] = answer[8..14].try_into().expect("six fields");
         let mut out = vec![0; s.payload.len()];
         let mut large = vec![0; s.payload.len().max(65536)];
-        assert_eq!(own.encode(s.number, &fields, &mut out), 0);
+        let (mut answer, mut other) = ([0; 16], [0; 16]);
+        assert_eq!(own.encode(s.number, &fields, &mut out, &mut answer), 0);
         assert_eq!(out, s.payload, "{}", s.name);
         let encode = (s.encode)(&s.payload);
         assert_eq!(encode(), s.payload, "{}", s.name);
@@ -162,19 +203,31 @@ fn encoding(samples: &[Sample]) {
                 black_box(encode());
             },
             &mut || {
-                black_box(own.encode(s.number, black_box(&fields), &mut out));
+                black_box(own.encode(s.number, black_box(&fields), &mut out, &mut answer));
             },
             &mut || {
-                black_box(own.encode(s.number, black_box(&fields), &mut large));
+                black_box(own.encode(s.number, black_box(&fields), &mut large, &mut other));
             },
         ]);
-        row(&format!("{}, {} bytes", s.name, s.payload.len()), &times);
+        table.add(format!("{}, {} bytes", s.name, s.payload.len()), &times);
     }
 }
 
+/// The argument is how often all is measured, 5 without one.
 fn main() {
+    let runs = std::env::args().nth(1).map_or(5, |n| n.parse().expect("how many runs"));
     let samples = payloads::samples();
-    decoding(&samples);
-    encoding(&samples);
-    session::receiving(&samples);
+    let sides = "Rust ns | at the message's size | at 64 KiB";
+    let mut decode = Table::new(format!("decode | {sides}"));
+    let mut encode = Table::new(format!("encode | {sides}"));
+    let session = session::Session::new(&samples);
+    let mut receive = Table::new(session.heading());
+    for _ in 0..runs {
+        decoding(&samples, &mut decode);
+        encoding(&samples, &mut encode);
+        session.receiving(&mut receive);
+    }
+    decode.print();
+    encode.print();
+    receive.print();
 }

@@ -1,6 +1,6 @@
 //! The receiver over a session of frames, in one piece and cut.
 use crate::payloads::Sample;
-use crate::{best, row};
+use crate::{best, Lent, Table};
 use fjord_gateway::{encode_frame, KindTable, Memory, MessageKind, Receiver};
 use fjord_wire::frame;
 use std::hint::black_box;
@@ -25,44 +25,66 @@ impl Gathering<'_> {
     }
 }
 
-pub fn receiving(samples: &[Sample]) {
-    let mut run = Vec::new();
-    let mut table = KindTable::opaque();
-    let mut longest = 0;
-    for s in samples {
-        let mut out = vec![0; 9 + s.payload.len()];
-        encode_frame(s.kind, 1, &s.payload, &mut out).expect("a sample fits");
-        run.extend(out);
-        table = table.with(s.kind, MessageKind::from_number(s.number).expect("a sample is one of twelve"));
-        longest = longest.max(s.payload.len());
-    }
-    println!("\n| receiver, a session of {} frames, {} bytes | Rust ns | at the longest frame's size | at 4 times it | ratio | ratio at 4 times |\n|---|---|---|---|---|---|", samples.len(), run.len());
-    for size in [run.len(), 1460, 1] {
-        let mut gathering = Gathering { samples, bytes: Vec::new() };
-        let mut memories = [1, 4].map(|k| (vec![0; k * longest], Memory::new(k * longest, k * 8192, k * 70_000)));
-        let mut lent: Vec<Box<dyn FnMut() + '_>> = Vec::new();
-        for (hold, memory) in &mut memories {
-            let mut receiver = Receiver::open(&table, hold);
-            let run = &run;
-            lent.push(Box::new(move || {
-                for mut piece in run.chunks(size) {
-                    while let Some(frame) = receiver.next(&mut piece, memory.lend()).expect("the run goes on") {
-                        assert!(frame.message.is_ok());
-                        black_box(&frame);
-                    }
-                }
-            }));
+/// The samples as frames of one run, and what its longest message needs of each buffer.
+pub struct Session<'s> {
+    samples: &'s [Sample],
+    run: Vec<u8>,
+    table: KindTable,
+    hold: usize,
+    needed: [usize; 3],
+}
+
+impl<'s> Session<'s> {
+    pub fn new(samples: &'s [Sample]) -> Self {
+        let mut session = Session { samples, run: Vec::new(), table: KindTable::opaque(), hold: 0, needed: [0; 3] };
+        for s in samples {
+            let mut out = vec![0; 9 + s.payload.len()];
+            encode_frame(s.kind, 1, &s.payload, &mut out).expect("a sample fits");
+            session.run.extend(out);
+            let message = MessageKind::from_number(s.number).expect("a sample is one of twelve");
+            session.table = session.table.with(s.kind, message);
+            session.hold = session.hold.max(s.payload.len());
+            let lent = Lent::exact(s.number, &s.payload);
+            for (most, len) in session.needed.iter_mut().zip([lent.text.len(), lent.rows.len(), lent.nodes.len()]) {
+                *most = len.max(*most);
+            }
         }
-        let (own, large) = lent.split_at_mut(1);
-        let times = best(&mut [
-            &mut || {
-                for piece in run.chunks(size) {
-                    gathering.take(black_box(piece));
-                }
-            },
-            &mut own[0],
-            &mut large[0],
-        ]);
-        row(&format!("pieces of {size} bytes"), &times);
+        session
+    }
+
+    pub fn heading(&self) -> String {
+        let (frames, bytes) = (self.samples.len(), self.run.len());
+        format!("receiver, a session of {frames} frames, {bytes} bytes | Rust ns | at the longest frame's size | at 4 times it")
+    }
+
+    pub fn receiving(&self, table: &mut Table) {
+        let [text, rows, nodes] = self.needed;
+        for size in [self.run.len(), 1460, 1] {
+            let mut gathering = Gathering { samples: self.samples, bytes: Vec::new() };
+            let mut memories = [1, 4].map(|k| (vec![0; k * self.hold], Memory::new(k * text, k * rows, k * nodes)));
+            let mut lent: Vec<Box<dyn FnMut() + '_>> = Vec::new();
+            for (hold, memory) in &mut memories {
+                let mut receiver = Receiver::open(&self.table, hold);
+                lent.push(Box::new(move || {
+                    for mut piece in self.run.chunks(size) {
+                        while let Some(frame) = receiver.next(&mut piece, memory.lend()).expect("the run goes on") {
+                            assert!(frame.message.is_ok());
+                            black_box(&frame);
+                        }
+                    }
+                }));
+            }
+            let (own, large) = lent.split_at_mut(1);
+            let times = best(&mut [
+                &mut || {
+                    for piece in self.run.chunks(size) {
+                        gathering.take(black_box(piece));
+                    }
+                },
+                &mut own[0],
+                &mut large[0],
+            ]);
+            table.add(format!("pieces of {size} bytes"), &times);
+        }
     }
 }
