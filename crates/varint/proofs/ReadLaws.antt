@@ -64,6 +64,41 @@ unfolding getU64
 get-one s at {b} h e l =
     read-at s at 0 0 h ∙ rw (← e) (last-first b (drop (at + 1) s) at 0 0 refl l ∙ ap (λ (v : ℕ). Value v (at + 1)) (omega arith))
 
+-- a byte that is not the last, and one that is, of those in between
+module _ (s : List ℕ) (p i v : ℕ) {b : ℕ} (h : p < length s) (e : b ≡ getD s p 0) where
+  read-on : 128 ≤ b → b < 256 → i < 9 → readFrom (drop p s) p i v ≡ readFrom (drop (p + 1) s) (p + 1) (i + 1) (v + (b - 128) * 128 ^ i)
+  read-on l u h9 =
+      let m : b % 128 ≡ b - 128 = omega arith in
+      rw (← m) (read-at s p i v h ∙ rw (← e) (more b (drop (p + 1) s) p i v l h9))
+
+  read-last : b < 128 → 0 < b → i < 9 → readFrom (drop p s) p i v ≡ Value (v + b * 128 ^ i) (p + 1)
+  read-last l u h9 = read-at s p i v h ∙ rw (← e) (last-more b (drop (p + 1) s) p i v l u h9)
+
+-- a varint of two bytes or three
+module _ (s : List ℕ) (at : ℕ) {b c : ℕ} (h : at + 3 ≤ length s) (eb : b ≡ getD s at 0) (lb : 128 ≤ b) (ub : b < 256) (ec : c ≡ getD s (at + 1) 0) where
+  first : getU64 s at ≡ readFrom (drop (at + 1) s) (at + 1) 1 (0 + (b - 128) * 128 ^ 0)
+  unfolding getU64
+  first = read-on s at 0 0 (omega arith) eb lb ub (lit< tt)
+
+  pub get-two : c < 128 → 0 < c → getU64 s at ≡ Value (b - 128 + c * 128) (at + 2)
+  get-two l u =
+      first
+      ∙ read-last s (at + 1) 1 (0 + (b - 128) * 128 ^ 0) (omega arith) ec l u (lit< tt)
+      ∙ ap (λ (v : ℕ). Value v (at + 1 + 1)) (omega arith)
+      ∙ ap (λ (q : ℕ). Value (b - 128 + c * 128) q) (omega arith)
+
+  pub get-three : {d : ℕ} → 128 ≤ c → c < 256 → d ≡ getD s (at + 2) 0 → d < 128 → 0 < d
+      → getU64 s at ≡ Value (b - 128 + (c - 128) * 128 + d * 16384) (at + 3)
+  get-three {d} l u ed ld ud =
+      let v₁ = 0 + (b - 128) * 128 ^ 0 in
+      let v₂ = v₁ + (c - 128) * 128 ^ 1 in
+      let ed′ : d ≡ getD s (at + 1 + 1) 0 = ed ∙ ap (λ (q : ℕ). getD s q 0) (omega arith) in
+      first
+      ∙ read-on s (at + 1) 1 v₁ (omega arith) ec l u (lit< tt)
+      ∙ read-last s (at + 1 + 1) 2 v₂ (omega arith) ed′ ld ud (lit< tt)
+      ∙ ap (λ (v : ℕ). Value v (at + 1 + 1 + 1)) (omega arith)
+      ∙ ap (λ (q : ℕ). Value (b - 128 + (c - 128) * 128 + d * 16384) q) (omega arith)
+
 pub read-end : (s : List ℕ) (p i v : ℕ) → length s ≤ p → readFrom (drop p s) p i v ≡ Refused UnexpectedEof
 unfolding readFrom
 read-end s p i v h = rw (drop-of-length-le s h)

@@ -11,7 +11,7 @@ pub mod utf8;
 
 ghost use mathlib.Core.Path.{_≡_};
 ghost use Prim.Native.Nat.{_+_, _≤_, _<_};
-ghost use lib.ListN.{length};
+ghost use lib.ListN.{length, getD};
 ghost use lib.Seq.{sets};
 ghost use Rattle.varint.specs.Leb128.{getU64, putU64};
 ghost use Rattle.varint.specs.Stores.{filled};
@@ -42,8 +42,8 @@ pub(crate) fn wide(b: u8) -> u64
     b as u64
 }
 
-// The varint at place `at` of `s`. One byte, the most usual, is read here; the rest is read by a function that is called at
-// two places, which keeps it from being inlined, so that this one is small enough to be inlined everywhere.
+// The varint at place `at` of `s`. Up to three bytes, the most usual, are read here and in `get_short`; the rest is read by a function that is
+// called at two places, which keeps it from being inlined, so that these two are small enough to be inlined everywhere.
 pub fn get_u64(s: &[u8], at: usize) -> ReadU64
     ensures { λ r. ⌜ r ≡ getU64 (now (s .entry)) at ⌝ }
 {
@@ -55,7 +55,36 @@ pub fn get_u64(s: &[u8], at: usize) -> ReadU64
                 next: at + 1,
             };
         }
-        return get_long(s, at);
+        return get_short(s, at, b);
+    }
+    get_long(s, at)
+}
+
+// The varint at place `at` of `s`, whose first byte is `b` and not its last.
+fn get_short(s: &[u8], at: usize, b: u64) -> ReadU64
+    requires { ⌜ (at < length (now s)) × (b ≡ getD (now s) at 0) × (128 ≤ b) × (b < 256) ⌝ }
+    ensures { λ r. ⌜ r ≡ getU64 (now (s .entry)) at ⌝ }
+{
+    if 3 <= s.len() - at {
+        let c = wide(s[at + 1]);
+        if c < 128 {
+            if 0 < c {
+                return ReadU64::Value {
+                    value: b - 128 + c * 128,
+                    next: at + 2,
+                };
+            }
+        } else {
+            let d = wide(s[at + 2]);
+            if d < 128 {
+                if 0 < d {
+                    return ReadU64::Value {
+                        value: b - 128 + (c - 128) * 128 + d * 16384,
+                        next: at + 3,
+                    };
+                }
+            }
+        }
     }
     get_long(s, at)
 }
