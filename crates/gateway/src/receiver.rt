@@ -1,4 +1,5 @@
-// The entry points of the receiver. The host lends its receiver: each is a thin wrapper over a step that takes it by value and gives it back.
+// The entry points of the receiver. The host lends its receiver: each wraps a step that takes it by value and gives it back, but for a piece that only lengthens
+// a payload.
 ghost use mathlib.Core.Path.{_≡_};
 ghost use Rattle.gateway.specs.FrameEntries.{ofOpening, resultOf, ofOutcome, OpensTo, OffersTo, Extends};
 use crate::answers::Parts;
@@ -125,6 +126,7 @@ pub extern "C" fn fjord_open(
     o.code
 }
 
+// A piece that only lengthens a payload, as most pieces of a long frame do, takes a short way: one count is stored, and the receiver is not copied in and out.
 #[no_mangle]
 pub extern "C" fn fjord_offer(
     receiver: &mut Receiver,
