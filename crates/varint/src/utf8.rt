@@ -41,8 +41,8 @@ fn valid_from(s: &[u8], from: usize) -> bool
 
 // The end of the run of ASCII that starts at place `from`. Blocks of 16 bytes come first, since a run in a text that is
 // not all ASCII is short; after one that is ASCII, blocks of 64 are worth a try. A block of 16 is compared with 127 and not
-// with 128, which is compiled to fewer instructions; the byte 127 itself, rare in a text, is left to what follows. A block of
-// 8 comes last, so that without a byte 127 the loop over bytes passes seven at most.
+// with 128, which is compiled to fewer instructions; the byte 127 itself, rare in a text, is left to what follows. Where
+// the text ends, a block of 8 comes before the loop over bytes; inside of a text that is not all ASCII it would cost more than it saves.
 fn skip_ascii(s: &[u8], from: usize) -> usize
     requires { ⌜ (from < length (now s)) × (getD (now s) from 0 < 128) ⌝ }
     ensures { λ r. ⌜ Passed (now (s .entry)) from r × (from < r) ⌝ }
@@ -54,9 +54,12 @@ fn skip_ascii(s: &[u8], from: usize) -> usize
         }
         p = skip_blocks(s, p + 16);
     }
-    if 8 <= s.len() - p {
-        if all_below(128, s, p, p + 8) {
-            p += 8;
+    let left = s.len() - p;
+    if left < 16 {
+        if 8 <= left {
+            if all_below(128, s, p, p + 8) {
+                p += 8;
+            }
         }
     }
     while p < s.len() {

@@ -31,10 +31,10 @@ abbrev μ-loop : tie.MeasureT-loop
 μ-loop s from p₀ p = length s - p
 
 abbrev Inv-loop2 : tie.InvT-loop2
-Inv-loop2 s from p₀ p = Passed s from p
+Inv-loop2 s from p₀ left p = Passed s from p
 
 abbrev μ-loop2 : tie.MeasureT-loop2
-μ-loop2 s from p₀ p = length s - p
+μ-loop2 s from p₀ left p = length s - p
 
 loop-holds : tie.Need-loop-holds Inv-loop μ-loop Inv-loop2 μ-loop2
 loop-holds c = passed-none _ _ (omega arith)
@@ -61,8 +61,8 @@ loop-again : tie.Need-loop-again Inv-loop μ-loop Inv-loop2 μ-loop2
 loop-again c = let block = c .before .before .all-below .ensures (not-false _ (c .before .if1 .left)) in
     passed-on _ (passed-on _ (c .before .before .before .before .loop .inv) block) (c .skip-blocks .ensures)
 
-sub-if2 : tie.Need-sub-if2 Inv-loop μ-loop Inv-loop2 μ-loop2
-sub-if2 c = search needs
+sub-left : tie.Need-sub-left Inv-loop μ-loop Inv-loop2 μ-loop2
+sub-left c = search needs
 
 add-all-below-2 : tie.Need-add-all-below-2 Inv-loop μ-loop Inv-loop2 μ-loop2
 add-all-below-2 c = search needs
@@ -77,16 +77,16 @@ loop2-holds : tie.Need-loop2-holds Inv-loop μ-loop Inv-loop2 μ-loop2
 loop2-holds c =
     let l = c .before .before .loop .inv in
     ⊎-elim
-    (λ w. passed-to (w .3) (passed-on _ l (w .1 .ensures (w .2 .taken))))
-    (λ w. ⊎-elim (λ v. passed-to (v .3) l) (λ v. passed-to (v .1) l) w)
+    (λ w. passed-to (w .4) (passed-on _ l (w .2 .ensures (w .3 .taken))))
+    (λ w. ⊎-elim (λ v. passed-to (v .4) l) (λ v. ⊎-elim (λ x. passed-to (x .2) l) (λ x. passed-to (x .1) l) v) w)
     (c .if2 .came)
 
-shared-slice-read-if4 : tie.Need-shared-slice-read-if4 Inv-loop μ-loop Inv-loop2 μ-loop2
-shared-slice-read-if4 c = search needs
+shared-slice-read-if5 : tie.Need-shared-slice-read-if5 Inv-loop μ-loop Inv-loop2 μ-loop2
+shared-slice-read-if5 c = search needs
 
 returns : tie.Need-returns Inv-loop μ-loop Inv-loop2 μ-loop2
 returns c = let l = c .before .before .before .loop2 in
-    (l .inv, further (l .inv) (c .before .before .before .before .before .before .before .before .pre .1) (c .if4 .taken))
+    (l .inv, further (l .inv) (c .before .before .before .before .before .before .before .before .pre .1) (c .if5 .taken))
 
 add-p-2 : tie.Need-add-p-2 Inv-loop μ-loop Inv-loop2 μ-loop2
 add-p-2 c = search needs
@@ -95,7 +95,7 @@ loop2-less : tie.Need-loop2-less Inv-loop μ-loop Inv-loop2 μ-loop2
 loop2-less c = search needs
 
 loop2-again : tie.Need-loop2-again Inv-loop μ-loop Inv-loop2 μ-loop2
-loop2-again c = passed-on _ (c .before .before .before .before .loop2 .inv) (passed-ascii _ _ (c .before .before .before .loop2-test .taken) (c .before .if4 .left))
+loop2-again c = passed-on _ (c .before .before .before .before .loop2 .inv) (passed-ascii _ _ (c .before .before .before .loop2-test .taken) (c .before .if5 .left))
 
 returns-2 : tie.Need-returns-2 Inv-loop μ-loop Inv-loop2 μ-loop2
 returns-2 c = (c .before .loop2 .inv, omega arith)
@@ -116,12 +116,12 @@ skip-ascii-spec =
     skip-blocks-requires
     loop-less
     loop-again
-    sub-if2
+    sub-left
     add-all-below-2
     all-below-requires-2
     add-p
     loop2-holds
-    shared-slice-read-if4
+    shared-slice-read-if5
     returns
     add-p-2
     loop2-less
