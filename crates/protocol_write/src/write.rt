@@ -87,11 +87,12 @@ fn write_desc(text: &[u8], nodes: &[u64], n: usize, limit: u64, out: &mut [u8], 
     }
 }
 
-// The id's two halves.
+// The id's two halves. Not by `write_two`, which has other callers and so is not inlined into the loop over the rows.
 fn write_pair(id: u64, out: &mut [u8], at: usize) -> usize
     ensures { λ r. ⌜ record { out = now (out .exit); place = r } ≡ putPair id (record { out = now (out .entry); place = at }) ⌝ }
 {
-    write_two(id / 0x100_0000_0000, id % 0x100_0000_0000, out, at)
+    let past = put_number(out, at, id / 0x100_0000_0000);
+    put_number(out, past, id % 0x100_0000_0000)
 }
 
 // Whether a type has a value, and the value: its root is the node after its key, whose root is node `key`.
