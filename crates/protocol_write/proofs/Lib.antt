@@ -4,6 +4,7 @@ pub mod NodeChecks
 pub mod Printing
 pub mod RowLoops
 pub mod RowPrints
+pub mod RowsLaid
 pub mod Sends
 pub mod TextChecks
 pub mod Verdicts

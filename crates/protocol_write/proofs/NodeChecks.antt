@@ -1,33 +1,33 @@
 -- Tests of a type's nodes: the only refusal is that of the layout.
-use mathlib.Core.Path.{_≡_, refl, sym, _∙_, ap}
+use mathlib.Core.Path.{_≡_, refl, _∙_, ap}
 use mathlib.Core.List.{List, []}
 use Prim.Native.Nat.{ℕ, zero, suc, _+_, _-_, _≤_, _<_}
 use native.Mathlib.Omega.{arith}
 use lib.Dec.{eqb}
 use lib.ListN.{getD}
-use borrow.Author.Tests.{eq-eqb, ne-eqb}
+use borrow.Author.Tests.{eqb-true, eq-eqb, ne-eqb}
 use Rattle.varint.specs.Choice.{pick}
 use Rattle.varint.specs.Formats.{Got, got, bad}
 use Rattle.varint.specs.Gathering.{Held, held, lacks, thenHeld, nameHeld}
 use Rattle.varint.specs.declared.error.Fault.the-variants.{Layout}
 use Rattle.varint.specs.declared.error.Refusal.the-variants.{BadMessage}
-use Rattle.varint.proofs.Basics.{pick-both}
+use Rattle.varint.proofs.Basics.{pick-both, pick-cases}
 use Rattle.desc.specs.Emitting.{sized, verdict, thenNames, namesFrom}
 use Rattle.desc.specs.Encoding.{heldIn}
-use Rattle.desc.specs.Layout.{Span}
-use Rattle.desc.specs.Table.{table}
-use Rattle.desc.specs.Trees.{Tree}
-use Rattle.desc.specs.declared.write.Emitted.{Emitted}
+use Rattle.desc.specs.Layout.{Span, tagAt, countAt, endAt}
+use Rattle.desc.specs.Table.{cell, nodeFits, isBranch, kidsAt, closedAt, table}
+use Rattle.desc.specs.Trees.{Tree, Kids}
 use Rattle.desc.specs.declared.write.Emitted.the-variants.{Done, Wrong}
 use Rattle.desc.specs.declared.write.Names.{Names}
 use Rattle.desc.specs.declared.write.Names.the-variants.{Good, Refused}
-use Rattle.desc.proofs.GotAs.{GotAs}
+use Rattle.desc.proofs.GotAs.{GotAs, got-as}
+use Rattle.desc.proofs.NodeFits.{fits, leaf-row}
 use Rattle.desc.proofs.TableNames.{table-bad, table-verdict}
-use Rattle.desc.proofs.TableSound.{Laid, table-laid, some-size}
+use Rattle.desc.proofs.TableSound.{table-sound, some-size}
 use Rattle.protocol.specs.Fields.{yes}
 use Rattle.protocol.specs.declared.message.RowKind.the-variants.{Predicate}
 use Rattle.protocol.specs.Types.{after, typeLaid, typesLaid}
-use Rattle.protocol_write.specs.Checking.{laidAs, valueNames, rowNames}
+use Rattle.protocol_write.specs.Checking.{laidAs, LaidAt, valueNames, rowNames}
 use Rattle.protocol_write.specs.declared.checks.Laid.the-variants as L
 
 -- what the size of a tree tells of the node after it
@@ -41,33 +41,39 @@ unfolding sized laidAs
 after-next (got t e) next place h = let p : e ≡ next = cc in rw p
 after-next (bad x) next place h = let z : _≡_ {A = ℕ} 0 1 = cc in absurd (omega arith)
 
--- the names of a descriptor
-module _ (tx nd : List ℕ) (limit n : ℕ) (R : Emitted) (is : R ≡ sized (table limit nd n 0)) where
-  pub desc-wrong : R ≡ Wrong → Refused (BadMessage Layout) ≡ verdict (heldIn (table limit nd n 0) tx)
-  unfolding sized heldIn verdict
-  desc-wrong w = go (table limit nd n 0) refl (sym is ∙ w)
-    where
-      go : (D : Got (Tree Span)) → table limit nd n 0 ≡ D → sized D ≡ Wrong → Refused (BadMessage Layout) ≡ verdict (heldIn D tx)
-      go (got t e) h k = let z : _≡_ {A = ℕ} 0 1 = cc in absurd (omega arith)
-      go (bad x) h k = let p : x ≡ BadMessage Layout = table-bad tx nd limit n 0 x h in rw p
+-- a tree that is read at node n ends where the node says
+abbrev pub Ends : List ℕ → ℕ → Got (Tree Span) → Type 0
+Ends nd n = GotAs (λ t e. cell nd n endAt ≡ e)
 
-  module _ (next place : ℕ) (done : R ≡ Done next place) where
-    -- a descriptor has a node
-    pub desc-inside : n < next
-    unfolding sized
-    desc-inside = go (table limit nd n 0) (table-laid limit nd n 0) (sym is ∙ done)
-      where
-        go : (D : Got (Tree Span)) → GotAs (Laid limit 0 nd n) D → sized D ≡ Done next place → n < next
-        go (got t e) l k = let p : e ≡ next = cc in let q = l .next in let o = some-size t in omega arith
-        go (bad x) l k = let z : _≡_ {A = ℕ} 0 1 = cc in absurd (omega arith)
+closed-end : (nd : List ℕ) (n tag : ℕ) (K : Got (Kids Span)) → Ends nd n (closedAt tag (cell nd n endAt) K)
+closed-end nd n tag (got ks m) = pick-cases (Ends nd n) (eqb (cell nd n endAt) m) (eqb-true (cell nd n endAt) m) (λ _. tt)
+closed-end nd n tag (bad x) = tt
 
-    pub desc-names : (v : Names) → v ≡ namesFrom tx nd (n + 1) (next - (n + 1)) → v ≡ verdict (heldIn (table limit nd n 0) tx)
-    unfolding sized heldIn
-    desc-names v names = go (table limit nd n 0) refl (sym is ∙ done)
-      where
-        go : (D : Got (Tree Span)) → table limit nd n 0 ≡ D → sized D ≡ Done next place → v ≡ verdict (heldIn D tx)
-        go (got t e) h k = let p : e ≡ next = cc in names ∙ table-verdict tx nd limit n 0 next t (rw (← p) h)
-        go (bad x) h k = let z : _≡_ {A = ℕ} 0 1 = cc in absurd (omega arith)
+pub table-end : (d : ℕ) (nd : List ℕ) (n parent : ℕ) → Ends nd n (table d nd n parent)
+unfolding table
+table-end zero nd n parent = tt
+table-end (suc d) nd n parent =
+    pick-cases (Ends nd n) (nodeFits nd n parent)
+    (λ f.
+    pick-cases (Ends nd n) (isBranch nd n)
+    (λ _. closed-end nd n (cell nd n tagAt) (kidsAt (table d nd) nd (cell nd n tagAt) (cell nd n countAt) (n + 1)))
+    (λ b. leaf-row nd n parent (fits nd n parent f) b .end-is))
+    (λ _. tt)
+
+-- the names of a descriptor whose nodes are laid out
+module _ (nd : List ℕ) (limit n end : ℕ) (laid : LaidAt limit nd n) (last : end ≡ cell nd n endAt) where
+  read : table limit nd n 0 ≡ got (laid .tree) end
+  read =
+      let e : cell nd n endAt ≡ laid .next = got-as (λ t e. cell nd n endAt ≡ e) (table limit nd n 0) (laid .tree) (laid .next) (table-end limit nd n 0) (laid .is) in
+      rw (last, e) (laid .is)
+
+  -- a descriptor has a node
+  pub desc-inside : n < end
+  desc-inside = let q = table-sound limit 0 nd n (laid .tree) end read .next in let o = some-size (laid .tree) in omega arith
+
+  pub desc-names : (tx : List ℕ) (v : Names) → v ≡ namesFrom tx nd (n + 1) (end - (n + 1)) → v ≡ verdict (heldIn (table limit nd n 0) tx)
+  unfolding heldIn
+  desc-names tx v names = rw read (names ∙ table-verdict tx nd limit n 0 end (laid .tree) read)
 
 -- The layout of types
 

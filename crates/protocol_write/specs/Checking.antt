@@ -6,6 +6,7 @@ use Prim.Native.Nat.{ℕ, zero, suc, _+_, _*_}
 use lib.Dec.{ltb}
 use lib.ListN.{length, getD}
 use Rattle.varint.specs.Choice.{pick}
+use Rattle.varint.specs.Formats.{got}
 use Rattle.varint.specs.Gathering.{Held, held, lacks, nameHeld, textHeld}
 use Rattle.varint.specs.Stores.{part}
 use Rattle.varint.specs.Utf8.{utf8, scan, lead}
@@ -15,6 +16,7 @@ use Rattle.desc.specs.Emitting.{verdict, thenNames}
 use Rattle.desc.specs.Encoding.{heldIn}
 use Rattle.desc.specs.Layout.{endAt}
 use Rattle.desc.specs.Table.{cell, table}
+use Rattle.desc.specs.Trees.{Tree}
 use Rattle.desc.specs.declared.write.Names.{Names}
 use Rattle.desc.specs.declared.write.Names.the-variants.{Good, Refused}
 use Rattle.protocol.specs.Fetch.{maxFetch}
@@ -62,6 +64,24 @@ nodesFine Id limit rs nd count = Good
 nodesFine Predicate limit rs nd count = verdict (typesLaid limit rs nd count 0 0)
 nodesFine Step limit rs nd count = Good
 nodesFine Pair limit rs nd count = Good
+
+-- the nodes from node n on are laid out as those of a tree
+pub record LaidAt (limit : ℕ) (nd : List ℕ) (n : ℕ) : Type 0 where
+  pub tree : Tree (ℕ × ℕ)
+  pub next : ℕ
+  pub is : table limit nd n 0 ≡ got tree next
+
+-- so are those of a type's value, where it has one
+abbrev pub ValueLaid : ℕ → List ℕ → ℕ → ℕ → Type 0
+ValueLaid limit nd has key = (has ≡ 0 → ⊥) → LaidAt limit nd (cell nd key endAt)
+
+-- so are the nodes of the row at number r; only types have nodes
+abbrev pub RowLaid : RowKind → ℕ → List ℕ → List ℕ → ℕ → Type 0
+RowLaid Claim limit rs nd r = Unit
+RowLaid Id limit rs nd r = Unit
+RowLaid Predicate limit rs nd r = LaidAt limit nd (getD rs (r + 5) 0) × ValueLaid limit nd (getD rs (r + 4) 0) (getD rs (r + 5) 0)
+RowLaid Step limit rs nd r = Unit
+RowLaid Pair limit rs nd r = Unit
 
 -- a type's value, where it has one: its root is the node after its key, root `key`
 unfoldable pub valueNames : ℕ → List ℕ → List ℕ → ℕ → ℕ → Names

@@ -7,12 +7,13 @@ ghost use Rattle.varint.specs.Gathering.{nameHeld, textHeld};
 ghost use Rattle.desc.specs.Emitting.{verdict, thenNames};
 ghost use Rattle.desc.specs.Encoding.{heldIn};
 ghost use Rattle.desc.specs.Table.{table};
+ghost use Rattle.desc.specs.declared.write.Names.the-variants.{Good};
 ghost use Rattle.protocol.specs.Page.{rawHeld};
 ghost use Rattle.protocol.specs.Rows.{widthOf};
 ghost use Rattle.protocol.specs.RowsHeld.{allGood};
 ghost use Rattle.protocol.specs.Types.{after, typeNumbers, typeLaid, typesLaid};
 ghost use Rattle.protocol.specs.declared.message.RowKind.the-variants.{Predicate};
-ghost use Rattle.protocol_write.specs.Checking.{rowGood, numbersFine, laidAs, nodesFine, valueNames, rowNames, rowsNames, rowsFine, startupFine, replyFine, fetchFine, fine};
+ghost use Rattle.protocol_write.specs.Checking.{rowGood, numbersFine, laidAs, nodesFine, LaidAt, ValueLaid, RowLaid, valueNames, rowNames, rowsNames, rowsFine, startupFine, replyFine, fetchFine, fine};
 use desc::node;
 use desc::node::read_cell;
 use desc::write::Emitted;
@@ -95,18 +96,19 @@ fn check_text(text: &[u8], span: Span) -> Names
     }
 }
 
-// The names of the descriptor whose root is node `n`.
+// The names of the descriptor whose root is node `n`. The nodes are laid out, so their end is read from the root and not found by a
+// second walk; `limit` is for the contract alone.
 fn check_desc(text: &[u8], nodes: &[u64], n: usize, limit: u64) -> Names
+    requires { ⌜ LaidAt limit (now nodes) n ⌝ }
     ensures { λ r. ⌜ r ≡ verdict (heldIn (table limit (now (nodes .entry)) n 0) (now (text .entry))) ⌝ }
 {
-    match size_desc(nodes, n, limit) {
-        Emitted::Wrong => Names::Refused(Refusal::BadMessage(Fault::Layout)),
-        Emitted::Done { next, place: _ } => check_names(text, nodes, n + 1, next),
-    }
+    let end = read_cell(nodes, n, node::END);
+    check_names(text, nodes, n + 1, end as usize)
 }
 
 // The names of a type's value, where it has one: its root is the node after its key, whose root is node `key`.
 fn check_value(text: &[u8], nodes: &[u64], has: u64, key: usize, limit: u64) -> Names
+    requires { ⌜ ValueLaid limit (now nodes) has key ⌝ }
     ensures { λ r. ⌜ r ≡ valueNames limit (now (text .entry)) (now (nodes .entry)) has key ⌝ }
 {
     if has == 0 {
@@ -118,6 +120,7 @@ fn check_value(text: &[u8], nodes: &[u64], has: u64, key: usize, limit: u64) -> 
 
 // The texts of the type whose row starts at number `r`.
 fn check_type(text: &[u8], rows: &[u64], nodes: &[u64], r: usize, limit: u64) -> Names
+    requires { ⌜ RowLaid Predicate limit (now rows) (now nodes) r ⌝ }
     ensures { λ v. ⌜ v ≡ rowNames Predicate limit (now (text .entry)) (now (rows .entry)) (now (nodes .entry)) r ⌝ }
 {
     let start = number_at(rows, r, 1);
@@ -141,6 +144,7 @@ fn check_label(text: &[u8], rows: &[u64], r: usize) -> Names
 
 // The texts of the row that starts at number `r`.
 fn check_row(kind: RowKind, limit: u64, text: &[u8], rows: &[u64], nodes: &[u64], r: usize) -> Names
+    requires { ⌜ RowLaid kind limit (now rows) (now nodes) r ⌝ }
     ensures { λ v. ⌜ v ≡ rowNames kind limit (now (text .entry)) (now (rows .entry)) (now (nodes .entry)) r ⌝ }
 {
     match kind {
@@ -161,7 +165,7 @@ fn check_texts(
     nodes: &[u64],
     count: u64,
 ) -> Names
-    requires { ⌜ count * widthOf kind ≤ length (now rows) ⌝ }
+    requires { ⌜ (count * widthOf kind ≤ length (now rows)) × (nodesFine kind limit (now rows) (now nodes) count ≡ Good) ⌝ }
     ensures { λ v. ⌜ v ≡ rowsNames kind limit (now (text .entry)) (now (rows .entry)) (now (nodes .entry)) count 0 ⌝ }
 {
     let width = kind.width();
@@ -189,7 +193,7 @@ fn check_named(
     nodes: &[u64],
     count: u64,
 ) -> Names
-    requires { ⌜ count * widthOf kind ≤ length (now rows) ⌝ }
+    requires { ⌜ (count * widthOf kind ≤ length (now rows)) × (nodesFine kind limit (now rows) (now nodes) count ≡ Good) ⌝ }
     ensures { λ v. ⌜ v ≡ rowsNames kind limit (now (text .entry)) (now (rows .entry)) (now (nodes .entry)) count 0 ⌝ }
 {
     match kind {

@@ -16,7 +16,7 @@ enum-told-3 : tie.Need-enum-told-3
 enum-told-3 c = search needs
 
 check-type-requires : tie.Need-check-type-requires
-check-type-requires c κs = search needs
+check-type-requires c κs = rw (c .enum-told3 .given .1) at (c .before .before .before .before .before .pre)
 
 enum-told-4 : tie.Need-enum-told-4
 enum-told-4 c = search needs

@@ -30,7 +30,7 @@ enum-told : tie.Need-enum-told
 enum-told c = search needs
 
 check-named-requires : tie.Need-check-named-requires
-check-named-requires c κs = (ltb-false _ _ (sym (c .before .before .before .before .before .before .few-rows .ensures) ∙ c .before .before .before .before .before .if1 .left))
+check-named-requires c κs = (ltb-false _ _ (sym (c .before .before .before .before .before .before .few-rows .ensures) ∙ c .before .before .before .before .before .if1 .left), sym (c .before .before .nodes-laid .ensures) ∙ c .enum-told .given .1)
 
 returns-3 : tie.Need-returns-3
 unfolding rowsFine thenNames

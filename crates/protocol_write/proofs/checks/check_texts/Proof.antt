@@ -6,11 +6,12 @@ use native.Mathlib.Omega.{arith}
 use borrow.Author.Needs.{needs}
 use Rattle.protocol_write.specs.Checking.{rowsNames}
 use Rattle.protocol_write.proofs.RowLoops.{next-row, row-named, row-refused, names-end}
+use Rattle.protocol_write.proofs.RowsLaid.{RowsLaid, next-laid, rows-laid}
 use Rattle.protocol_write.proofs.checks.check_texts.Statement.{statement}
 use Rattle.protocol_write.proofs.checks.check_texts.Tie as tie
 
 abbrev Inv-loop : tie.InvT-loop
-Inv-loop kind limit text rows nodes count width left₀ r₀ left r = (r + left * widthOf kind ≤ length rows) × (rowsNames kind limit text rows nodes count 0 ≡ rowsNames kind limit text rows nodes left r)
+Inv-loop kind limit text rows nodes count width left₀ r₀ left r = (r + left * widthOf kind ≤ length rows) × (rowsNames kind limit text rows nodes count 0 ≡ rowsNames kind limit text rows nodes left r) × RowsLaid limit rows nodes kind left r
 
 abbrev μ-loop : tie.MeasureT-loop
 μ-loop kind limit text rows nodes count width left₀ r₀ left r = left
@@ -19,10 +20,10 @@ width-requires : tie.Need-width-requires Inv-loop μ-loop
 width-requires c κs = search needs
 
 loop-holds : tie.Need-loop-holds Inv-loop μ-loop
-loop-holds c = (let p = c .before .before .before .before .pre in omega arith, refl)
+loop-holds c = (let p = c .before .before .before .before .pre .0 in omega arith, refl, rows-laid _ _ _ _ _ (c .before .before .before .before .pre .1))
 
 check-row-requires : tie.Need-check-row-requires Inv-loop μ-loop
-check-row-requires c κs = search needs
+check-row-requires c κs = next-laid _ _ _ _ _ _ _ (c .loop-test .taken) (c .before .before .width .ensures) (c .before .loop .inv .2) .0
 
 enum-known-e : tie.Need-enum-known-e Inv-loop μ-loop
 enum-known-e c = search needs
@@ -49,6 +50,7 @@ loop-again : tie.Need-loop-again Inv-loop μ-loop
 loop-again c = (
   rw (c .before .before .before .before .before .width .ensures) (next-row _ _ _ _ (c .before .before .before .loop-test .taken) (c .before .before .before .before .loop .inv .0) .1),
   c .before .before .before .before .loop .inv .1 ∙ row-named _ _ _ _ _ _ _ _ _ (c .before .before .before .loop-test .taken) (c .before .before .before .before .before .width .ensures) (c .before .before .check-row .ensures) (c .enum-told .given .1),
+  next-laid _ _ _ _ _ _ _ (c .before .before .before .loop-test .taken) (c .before .before .before .before .before .width .ensures) (c .before .before .before .before .loop .inv .2) .1,
 )
 
 returns-2 : tie.Need-returns-2 Inv-loop μ-loop

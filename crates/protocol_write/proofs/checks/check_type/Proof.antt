@@ -19,10 +19,10 @@ check-name-requires : tie.Need-check-name-requires
 check-name-requires c κs = search needs
 
 check-desc-requires : tie.Need-check-desc-requires
-check-desc-requires c κs = search needs
+check-desc-requires c κs = rw (c .before .number-at4 .ensures) (c .before .before .before .before .before .before .before .before .pre .0)
 
 check-value-requires : tie.Need-check-value-requires
-check-value-requires c κs = search needs
+check-value-requires c κs = rw (c .before .before .number-at4 .ensures, c .before .before .before .number-at3 .ensures) (c .before .before .before .before .before .before .before .before .before .pre .1)
 
 then-names-requires : tie.Need-then-names-requires
 then-names-requires c κs = search needs

@@ -12,7 +12,7 @@ read-cell-requires : tie.Need-read-cell-requires
 read-cell-requires c κs = search needs
 
 check-desc-requires : tie.Need-check-desc-requires
-check-desc-requires c κs = search needs
+check-desc-requires c κs = rw (c .read-cell .ensures) (c .before .before .before .before .pre (c .before .if1 .left))
 
 returns-2 : tie.Need-returns-2
 unfolding valueNames
