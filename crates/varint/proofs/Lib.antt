@@ -1,5 +1,6 @@
 pub mod Basics
 pub mod Bits64
+pub mod ByteLoop
 pub mod BytesToTry
 pub mod Clearing
 pub mod FixedLaws
@@ -12,6 +13,7 @@ pub mod OutLaws
 pub mod PutLaws
 pub mod PutSteps
 pub mod ReadLaws
+pub mod RunLaws
 pub mod StoreLaws
 pub mod TextLaws
 pub mod Utf8Grammar

@@ -1,5 +1,5 @@
 -- Laws of reading a varint: a byte of each kind, sizes, and where a varint ends.
-use mathlib.Core.Bool.{_&&_, and-false}
+use mathlib.Core.Bool.{true, false, _&&_, and-false}
 use mathlib.Core.Logic.{⊎-elim}
 use mathlib.Core.Path.{_≡_, refl, _∙_, ap}
 use mathlib.Core.List.{List, [], _∷_}
@@ -10,12 +10,12 @@ use native.Mathlib.Omega.{arith}
 use lib.Dec.{ltb, eqb, lit<}
 use lib.ListN.{length, getD, drop, drop-of-length-le, length-drop}
 use lib.Seq.{drop-cons}
-use borrow.Author.Tests.{lt-ltb, le-ltb, ne-eqb}
+use borrow.Author.Tests.{lt-ltb, le-ltb, ne-eqb, ltb-true, eqb-true}
 use Rattle.varint.specs.Leb128.{readFrom, getU64}
 use Rattle.varint.specs.declared.error.Refusal.the-variants.{UnexpectedEof, VarintOverflow, VarintNotMinimal}
 use Rattle.varint.specs.declared.ReadU64.{ReadU64}
 use Rattle.varint.specs.declared.ReadU64.the-variants.{Value, Refused}
-use Rattle.varint.proofs.Basics.{pick-same, pick-both, below}
+use Rattle.varint.proofs.Basics.{pick-same, pick-both, both, below}
 
 -- A byte of each kind, as one equation each: what a proof of the reader cites.
 module _ (b : ℕ) (s : List ℕ) (p i v : ℕ) where
@@ -53,6 +53,21 @@ module _ (b : ℕ) (s : List ℕ) (p i v : ℕ) where
   pub more : 128 ≤ b → i < 9 → readFrom (b ∷ s) p i v ≡ readFrom s (p + 1) (i + 1) (v + b % 128 * 128 ^ i)
   unfolding readFrom
   more hb h9 = simp (ne-eqb i 9 (omega arith), le-ltb b 128 hb)
+
+  -- a last byte, by the tests themselves
+  pub end-zero : i ≤ 9 → (ltb 0 i && eqb b 0) ≡ true → readFrom (b ∷ s) p i v ≡ Refused VarintNotMinimal
+  end-zero h t =
+      let t′ = both (ltb 0 i) (eqb b 0) t in
+      let z : b ≡ 0 = eqb-true b 0 (t′ .1) in
+      let k : 0 < i = ltb-true 0 i (t′ .0) in
+      ⊎-elim (λ (l : i < 9). last-zero z k l) (λ (l : 9 ≤ i). tenth-zero z (omega arith)) (below i 9)
+
+  pub end-over : b < 256 → (eqb i 9 && ltb 1 b) ≡ true → readFrom (b ∷ s) p i v ≡ Refused VarintOverflow
+  end-over h t = let t′ = both (eqb i 9) (ltb 1 b) t in tenth-more h (ltb-true 1 b (t′ .1)) (eqb-true i 9 (t′ .0))
+
+  pub end-value : b < 128 → (ltb 0 i && eqb b 0) ≡ false → (eqb i 9 && ltb 1 b) ≡ false → readFrom (b ∷ s) p i v ≡ Value (v + b * 128 ^ i) (p + 1)
+  unfolding readFrom
+  end-value h t u = let e : b % 128 ≡ b = omega arith in simp (e, lt-ltb b 128 h, t, u)
 
 -- the byte at place p is read first
 pub read-at : (s : List ℕ) (p i v : ℕ) → p < length s → readFrom (drop p s) p i v ≡ readFrom (getD s p 0 ∷ drop (p + 1) s) p i v

@@ -154,7 +154,7 @@ abbrev Below : ReadU64 → Type 0
 Below (Value n next) = n < 2 ^ 64
 Below (Refused r) = Unit
 
-last-below : (b i v : ℕ) → i ≤ 9 → v < 128 ^ i → b < 128 → (eqb i 9 && ltb 1 (b % 128)) ≡ false → v + b * 128 ^ i < 2 ^ 64
+pub last-below : (b i v : ℕ) → i ≤ 9 → v < 128 ^ i → b < 128 → (eqb i 9 && ltb 1 (b % 128)) ≡ false → v + b * 128 ^ i < 2 ^ 64
 last-below b i v hi hv hb t =
     test (eqb i 9)
     (λ e.

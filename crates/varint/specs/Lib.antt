@@ -6,6 +6,7 @@ pub mod Leb128
 pub mod Outs
 pub mod Refusals
 pub mod RoundTrips
+pub mod Runs
 pub mod Stores
 pub mod Texts
 pub mod Tried

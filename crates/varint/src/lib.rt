@@ -4,6 +4,7 @@
 // or the refusal. A writer at a place stores what lies inside the buffer and nothing past its end.
 pub mod error;
 pub mod fixed;
+pub mod run;
 pub mod signed;
 pub mod store;
 pub mod text;

@@ -1,21 +1,16 @@
 use borrow.Author.Needs.{needs}
-use Prim.Native.Nat.{ℕ, _+_, _-_, _*_, _%_, _^_, _≤_, _<_}
+use Prim.Native.Nat.{_+_, _-_, _*_, _^_, _<_}
 use native.Mathlib.Omega.{arith}
-use mathlib.Core.Path.{_≡_, refl, sym, _∙_}
-use mathlib.Core.List.{List, _∷_}
+use mathlib.Core.Path.{_≡_, sym, _∙_}
+use mathlib.Core.List.{_∷_}
 use lib.ListN.{length, drop}
 use mathlib.Core.Logic.{⊎-elim}
 use Rattle.varint.specs.declared.ReadU64.the-variants.{Value}
 use Rattle.varint.specs.Leb128.{getU64, readFrom}
-use Rattle.varint.proofs.ReadLaws.{tenth-zero, tenth-one, tenth-more, last-zero, last-first, last-more, more, read-at, read-end, weight-9, weight-8, payload, next-weight}
+use Rattle.varint.proofs.ReadLaws.{tenth-zero, tenth-one, tenth-more, last-zero, last-first, last-more, read-end, weight-9}
+use Rattle.varint.proofs.ByteLoop.{Going, going-start, going-fits, going-at, going-more}
 use Rattle.varint.proofs.get_long.Statement.{statement}
 use Rattle.varint.proofs.get_long.Tie as tie
-
-record Going (s : List ℕ) (at value unit i p : ℕ) : Type 0 where
-  nine : i ≤ 9
-  same : getU64 s at ≡ readFrom (drop p s) p i value
-  power : unit ≡ 128 ^ i
-  low : value < unit
 
 abbrev Inv-loop : tie.InvT-loop
 Inv-loop s at value₀ unit₀ i₀ p₀ value unit i p = Going s at value unit i p
@@ -28,15 +23,6 @@ module _ (w : tie.After-wide Inv-loop μ-loop) where
   byte : w .wide .result < 256
   byte = omega (arith, w .before .shared-slice-known2 .given (w .before .before .before .loop .p))
 
-  -- what a payload adds, before the tenth byte
-  fits : (x : ℕ) → x < 128 → (w .before .before .before .loop .i ≡ 9 → ⊥)
-      → w .before .before .before .loop .value + x * w .before .before .before .loop .unit < w .before .before .before .loop .unit * 128
-      × (w .before .before .before .loop .unit * 128 ≤ 9223372036854775808)
-  fits x h n =
-      let l = w .before .before .before .loop in
-      let i8 : l .i ≤ 8 = omega arith in
-      omega (arith, weight-8 i8 (l .inv .power), payload (l .unit) h)
-
   opened :
       getU64 (w .before .before .before .before .before .args .s .now) (w .before .before .before .before .before .args .at)
       ≡ readFrom
@@ -44,11 +30,10 @@ module _ (w : tie.After-wide Inv-loop μ-loop) where
       (w .before .before .before .loop .p)
       (w .before .before .before .loop .i)
       (w .before .before .before .loop .value)
-  opened = w .before .before .before .loop .inv .same ∙ read-at _ _ _ _ (w .before .before .loop-test .taken) ∙ rw (w .wide .ensures)
+  opened = going-at (w .before .before .before .loop .inv) (w .before .before .loop-test .taken) (w .wide .ensures)
 
 loop-holds : tie.Need-loop-holds Inv-loop μ-loop
-unfolding getU64
-loop-holds c = record { nine = omega arith; same = refl; power = refl; low = omega arith }
+loop-holds c = going-start _ _
 
 shared-slice-read-wide : tie.Need-shared-slice-read-wide Inv-loop μ-loop
 shared-slice-read-wide c = omega arith
@@ -79,10 +64,10 @@ returns-4 : tie.Need-returns-4 Inv-loop μ-loop
 returns-4 c = let w = c .before .before .before .before in sym (opened w ∙ last-zero _ _ _ _ _ (c .before .if5 .taken) (c .if6 .taken) (omega arith))
 
 mul-t20 : tie.Need-mul-t20 Inv-loop μ-loop
-mul-t20 c = omega (arith, fits (c .before .before .before) _ (c .before .if4 .taken) (c .before .before .if1 .left))
+mul-t20 c = omega (arith, going-fits (c .before .before .before .before .before .before .loop .inv) _ (c .before .if4 .taken) (c .before .before .if1 .left))
 
 add-t21 : tie.Need-add-t21 Inv-loop μ-loop
-add-t21 c = omega (arith, fits (c .before .before .before) _ (c .before .if4 .taken) (c .before .before .if1 .left))
+add-t21 c = omega (arith, going-fits (c .before .before .before .before .before .before .loop .inv) _ (c .before .if4 .taken) (c .before .before .if1 .left))
 
 add-t22 : tie.Need-add-t22 Inv-loop μ-loop
 add-t22 c = omega arith
@@ -103,13 +88,13 @@ returns-5 c =
     sym (opened w ∙ answer ∙ rw (l .inv .power))
 
 mul-value : tie.Need-mul-value Inv-loop μ-loop
-mul-value c = let w = c .before .before in let h : w .wide .result - 128 < 128 = omega (arith, byte w) in omega (arith, fits w _ h (c .before .if1 .left))
+mul-value c = let w = c .before .before in let h : w .wide .result - 128 < 128 = omega (arith, byte w) in omega (arith, going-fits (w .before .before .before .loop .inv) _ h (c .before .if1 .left))
 
 add-value : tie.Need-add-value Inv-loop μ-loop
-add-value c = let w = c .before .before in let h : w .wide .result - 128 < 128 = omega (arith, byte w) in omega (arith, fits w _ h (c .before .if1 .left))
+add-value c = let w = c .before .before in let h : w .wide .result - 128 < 128 = omega (arith, byte w) in omega (arith, going-fits (w .before .before .before .loop .inv) _ h (c .before .if1 .left))
 
 mul-unit : tie.Need-mul-unit Inv-loop μ-loop
-mul-unit c = let w = c .before .before in let h : w .wide .result - 128 < 128 = omega (arith, byte w) in omega (arith, fits w _ h (c .before .if1 .left))
+mul-unit c = let w = c .before .before in let h : w .wide .result - 128 < 128 = omega (arith, byte w) in omega (arith, going-fits (w .before .before .before .loop .inv) _ h (c .before .if1 .left))
 
 add-i : tie.Need-add-i Inv-loop μ-loop
 add-i c = omega arith
@@ -123,16 +108,7 @@ loop-less c = omega arith
 loop-again : tie.Need-loop-again Inv-loop μ-loop
 loop-again c =
     let w = c .before .before in
-    let l = w .before .before .before .loop in
-    let h : w .wide .result - 128 < 128 = omega (arith, byte w) in
-    let e : w .wide .result % 128 ≡ w .wide .result - 128 = omega (arith, byte w) in
-    let i9 : l .i < 9 = omega arith in
-    record {
-      nine = omega arith;
-      same = opened w ∙ more _ _ _ _ _ (c .if4 .left) i9 ∙ rw (e, l .inv .power);
-      power = next-weight (l .i) (l .inv .power);
-      low = fits w _ h (c .before .if1 .left) .0;
-    }
+    going-more (w .before .before .before .loop .inv) (w .before .before .loop-test .taken) (w .wide .ensures) (byte w) (c .if4 .left) (c .before .if1 .left)
 
 returns-6 : tie.Need-returns-6 Inv-loop μ-loop
 returns-6 c = sym (c .before .loop .inv .same ∙ read-end _ _ _ _ (c .loop-test .left))
