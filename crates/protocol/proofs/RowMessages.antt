@@ -8,7 +8,11 @@ use native.Mathlib.Omega.{arith}
 use lib.ListN.{length}
 use Rattle.varint.specs.Formats.{Got, got, bad, Format, varint, readTimes}
 use Rattle.varint.specs.declared.error.Refusal.{Refusal}
+use Rattle.varint.specs.Runs.{endOf, valuesOf}
+use Rattle.varint.specs.declared.run.Run.{Run}
+use Rattle.varint.specs.declared.run.Run.the-variants.{Next, Refused as NoRun}
 use Rattle.varint.proofs.FormatParts.{times-length}
+use Rattle.varint.proofs.RunLaws.{gotRun, times-run}
 use Rattle.desc.specs.Layout.{width}
 use Rattle.desc.specs.declared.Walked.{Walked}
 use Rattle.desc.specs.declared.Walked.the-variants as W
@@ -25,6 +29,7 @@ use Rattle.protocol.specs.declared.read.Found.{Found}
 use Rattle.protocol.specs.declared.read.Found.the-variants.{Read, Refused}
 use Rattle.protocol.proofs.PieceLaws.{Seven, join-seven}
 use Rattle.protocol.proofs.RowEnds.{predicate-nodes}
+use Rattle.protocol.proofs.RowStores.{stored-none}
 use Rattle.protocol.proofs.RowsLoop.{mem}
 
 many-seven : {A : Type 0} (piece : A → Piece) → ((a : A) → Seven (piece a)) → (l : List A) → Seven (many piece l)
@@ -83,15 +88,6 @@ module _ {check : Bool} {limit count : ℕ} {s : List ℕ} {at : ℕ} {tx : List
   unfolding toldRow loadRows
   no-claims h {e} i = rows-bad (claim check) layClaim check count s at (mem tx t rs 0 nd 0) e _ refl (rw i at (h .is))
 
-  pub ids-went : LoadsRows K.Id check limit count s at tx t rs nd k x tx′ rs′ nd′ → {next u m : ℕ} → x ≡ W.Read next u m
-      → Rows varint layId check count s at tx t rs nd next u k m tx′ rs′ nd′
-  unfolding toldRow loadRows
-  ids-went h {next} {u} {m} i = rows-of varint layId (λ c u n. refl) check count s at tx t rs nd next u k m tx′ rs′ nd′ _ refl (rw i at (h .is))
-
-  pub no-ids : LoadsRows K.Id check limit count s at tx t rs nd k x tx′ rs′ nd′ → {e : Refusal} → x ≡ W.Refused e → readTimes varint count s at ≡ bad e
-  unfolding toldRow loadRows
-  no-ids h {e} i = rows-bad varint layId check count s at (mem tx t rs 0 nd 0) e _ refl (rw i at (h .is))
-
   pub types-went : LoadsRows K.Predicate check limit count s at tx t rs nd k x tx′ rs′ nd′ → {next u m : ℕ} → x ≡ W.Read next u m
       → Rows (predicate check limit) layPredicate check count s at tx t rs nd next u k m tx′ rs′ nd′
   unfolding toldRow loadRows
@@ -118,6 +114,44 @@ module _ {check : Bool} {limit count : ℕ} {s : List ℕ} {at : ℕ} {tx : List
   pub no-pairs : LoadsRows K.Pair check limit count s at tx t rs nd k x tx′ rs′ nd′ → {e : Refusal} → x ≡ W.Refused e → readTimes pair count s at ≡ bad e
   unfolding toldRow loadRows
   no-pairs h {e} i = rows-bad pair layId check count s at (mem tx t rs 0 nd 0) e _ refl (rw i at (h .is))
+
+-- ids have numbers alone: their rows are the ids themselves
+ids-text : (l : List ℕ) → many layId l .text ≡ []
+unfolding many
+ids-text [] = refl
+ids-text (i ∷ l) = ids-text l
+
+ids-rows : (l : List ℕ) (t n : ℕ) → many layId l .rows t n ≡ l
+unfolding many
+ids-rows [] t n = refl
+ids-rows (i ∷ l) t n = ap (λ (x : List ℕ). i ∷ x) (ids-rows l (t + 0) (n + 0))
+
+ids-nodes : (l : List ℕ) (t n : ℕ) → many layId l .nodes t n ≡ []
+unfolding many
+ids-nodes [] t n = refl
+ids-nodes (i ∷ l) t n = ids-nodes l (t + 0) (n + 0)
+
+module _ (count : ℕ) (s : List ℕ) (at : ℕ) {x : Run} (h : x ≡ endOf count s at) where
+  pub ids-went : {next : ℕ} → x ≡ Next next → (check : Bool) (tx rs nd : List ℕ) {rs′ : List ℕ} → rs′ ≡ stored check rs 0 (valuesOf count s at)
+      → Rows varint layId check count s at tx 0 rs nd next 0 count 0 tx rs′ nd
+  ids-went {next} i check tx rs nd k =
+      let l = valuesOf count s at in
+      let is : readTimes varint count s at ≡ got l next = times-run count s at ∙ ap (gotRun l) (sym h ∙ i) in
+      let counted : length l ≡ count = times-length varint count s at l next is in
+      record {
+        list = l;
+        is = is;
+        counted = sym counted;
+        text = sym (rw (ids-text l) (stored-none check tx 0));
+        t-is = rw (ids-text l);
+        rows = k ∙ rw (ids-rows l 0 0);
+        r-is = rw (ids-rows l 0 0) (sym counted);
+        nodes = sym (rw (ids-nodes l 0 0) (stored-none check nd 0));
+        n-is = rw (ids-nodes l 0 0);
+      }
+
+  pub no-ids : {e : Refusal} → x ≡ NoRun e → readTimes varint count s at ≡ bad e
+  no-ids i = times-run count s at ∙ ap (gotRun (valuesOf count s at)) (sym h ∙ i)
 
 -- a message that is refused, and one that is its rows
 pub reads-refused : {check : Bool} {g : Got Laid} {tx rs nd tx′ rs′ nd′ : List ℕ} {e : Refusal} → g ≡ bad e → Reads check g tx rs nd (Refused e) tx′ rs′ nd′

@@ -9,6 +9,7 @@ ghost use lib.ListN.{drop};
 ghost use Prim.Native.Nat.{_*_};
 ghost use Rattle.varint.specs.Choice.{pick};
 ghost use Rattle.varint.specs.Formats.{got};
+ghost use Rattle.varint.specs.Runs.{endOf, valuesOf};
 ghost use Rattle.varint.specs.Utf8.{utf8};
 ghost use Rattle.desc.specs.Layout.{width};
 ghost use Rattle.protocol.specs.Loading.{stored, laidAs, ReadsBare, Reads, ReadsText, ReadsEntry, BareEntry, RoomyEntry, layFinished, session, SessionRead};
@@ -52,6 +53,9 @@ use varint::error::Refusal;
 use varint::fixed::get_u32_le;
 use varint::fixed::get_u64_le;
 use varint::get_u64;
+use varint::run::Run;
+use varint::run::fill_run;
+use varint::run::skim_run;
 use varint::store::copy_bytes;
 use varint::text::ReadText;
 use varint::utf8::is_utf8;
@@ -418,6 +422,16 @@ fn rowed(message: Message, t: usize, r: usize, n: usize) -> Found
     }
 }
 
+// The `count` ids from place `at` on: the reading that checks passes them, and the other stores them.
+fn run_ids(s: &[u8], at: usize, count: u64, check: bool, rows: &mut [u64]) -> Run
+    ensures { λ x. ⌜ (x ≡ endOf count (now (s .entry)) at) × (now (rows .exit) ≡ stored check (now (rows .entry)) 0 (valuesOf count (now (s .entry)) at)) ⌝ }
+{
+    if check {
+        return skim_run(s, at, count);
+    }
+    fill_run(s, at, count, rows)
+}
+
 pub(crate) fn read_ids(
     s: &[u8],
     check: bool,
@@ -433,13 +447,9 @@ pub(crate) fn read_ids(
         ReadU64::Value {
             value: count,
             next: p,
-        } => match read_rows(RowKind::Id, count, s, p, check, 0, text, 0, rows, nodes) {
-            Walked::Refused(e) => Found::Refused(e),
-            Walked::Read {
-                next: _,
-                text: t,
-                nodes: n,
-            } => rowed(Message::Ids { count }, t, count as usize, n),
+        } => match run_ids(s, p, count, check, rows) {
+            Run::Refused(e) => Found::Refused(e),
+            Run::Next(_) => rowed(Message::Ids { count }, 0, count as usize, 0),
         },
     }
 }

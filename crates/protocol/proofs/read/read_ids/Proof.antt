@@ -1,12 +1,8 @@
 use mathlib.Core.Path.{refl, sym, _∙_, ap}
-use Prim.Native.Nat.{_-_}
-use native.Mathlib.Omega.{arith}
-use Rattle.varint.proofs.FormatParts.{num-inside}
-use Rattle.protocol.specs.Loading.{laidAs, Within}
-use Rattle.protocol.proofs.RowMessages.{reads-refused, rows-read}
 use Rattle.protocol.specs.Ids.{readIds, layIds}
-use Rattle.protocol.proofs.RowMessages.{ids-went, no-ids}
+use Rattle.protocol.specs.Loading.{laidAs}
 use Rattle.protocol.proofs.MessageFields.{ids-read}
+use Rattle.protocol.proofs.RowMessages.{reads-refused, rows-read, ids-went, no-ids}
 use borrow.Author.Needs.{needs}
 use Rattle.protocol.proofs.read.read_ids.Statement.{statement}
 use Rattle.protocol.proofs.read.read_ids.Tie as tie
@@ -20,24 +16,17 @@ enum-known-e c = search needs
 enum-known-count : tie.Need-enum-known-count
 enum-known-count c = search needs
 
-read-rows-requires : tie.Need-read-rows-requires
-read-rows-requires c κs =
-    let i = num-inside (c .before .before .before .before .before .before .before .before .before .before .before .args .s .now) 0 _ _ (sym (c .before .before .before .before .before .before .get-u64 .ensures) ∙ c .before .before .before .before .count .given .1) in
-    (omega arith, i .1)
+run-ids-requires : tie.Need-run-ids-requires
+run-ids-requires c κs = search needs
 
 enum-known-e-2 : tie.Need-enum-known-e-2
 enum-known-e-2 c = search needs
 
-enum-known-t : tie.Need-enum-known-t
-enum-known-t c = search needs
+enum-told : tie.Need-enum-told
+enum-told c = search needs
 
 rowed-requires : tie.Need-rowed-requires
-unfolding Within
-rowed-requires c κs =
-    let v = (rw (c .before .t .given .1) at (c .before .before .before .before .before .before .before .before .before .read-rows .ensures .1)) in
-    let v₀ = v .0 in
-    let v₁ = v .1 in
-    omega arith
+rowed-requires c κs = search needs
 
 returns : tie.Need-returns
 unfolding readIds
@@ -46,30 +35,25 @@ returns c = reads-refused (rw (sym (c .before .before .before .get-u64 .ensures)
 same-length : tie.Need-same-length
 same-length c = search needs
 
-same-length-2 : tie.Need-same-length-2
-same-length-2 c = search needs
-
-same-length-3 : tie.Need-same-length-3
-same-length-3 c = search needs
-
 returns-2 : tie.Need-returns-2
 unfolding readIds
-returns-2 c = reads-refused (rw ((sym (c .before .before .before .before .before .before .before .before .before .before .before .before .before .before .before .before .get-u64 .ensures) ∙ c .before .before .before .before .before .before .before .before .before .before .before .before .before .before .count .given .1), no-ids (c .before .before .before .before .before .before .before .before .before .read-rows .ensures .0) (c .before .e2 .given .1)))
+returns-2 c =
+    let r = c .before .before .before .before .before in
+    let n = r .before .before .before in
+    reads-refused (rw (sym (n .before .before .get-u64 .ensures) ∙ n .count .given .1, no-ids _ _ _ (r .run-ids .ensures .0) (c .before .e2 .given .1)))
 
-same-length-4 : tie.Need-same-length-4
-same-length-4 c = search needs
-
-same-length-5 : tie.Need-same-length-5
-same-length-5 c = search needs
-
-same-length-6 : tie.Need-same-length-6
-same-length-6 c = search needs
+same-length-2 : tie.Need-same-length-2
+same-length-2 c = search needs
 
 returns-3 : tie.Need-returns-3
 unfolding layIds
 returns-3 c =
-    let w = ids-went (c .before .before .before .before .before .before .before .before .before .before .read-rows .ensures .0) (c .before .before .t .given .1) in
-    rows-read {j = c .before .before .before .before .before .before .before .before .before .before .before .before .before .before .before .count .given .0 .0} w (ap (laidAs layIds) (ids-read (c .before .before .before .before .before .before .before .before .before .before .before .before .before .before .before .before .before .before .before .before .before .before .args .check) (c .before .before .before .before .before .before .before .before .before .before .before .before .before .before .before .before .before .before .before .before .before .before .args .s .now) (sym (c .before .before .before .before .before .before .before .before .before .before .before .before .before .before .before .before .before .get-u64 .ensures) ∙ c .before .before .before .before .before .before .before .before .before .before .before .before .before .before .before .count .given .1) (w .is))) refl (omega arith) (rw (← w .counted) (c .rowed .ensures))
+    let r = c .before .before .before .before .before in
+    let n = r .before .before .before in
+    let a = n .before .before .before .before .before .before .before .args in
+    let w = ids-went _ _ _ (r .run-ids .ensures .0) (c .before .enum-told .given .1) (a .check) (a .text .now) (a .rows .now) (a .nodes .now) (r .run-ids .ensures .1) in
+    rows-read w (ap (laidAs layIds) (ids-read (a .check) (a .s .now) (sym (n .before .before .get-u64 .ensures) ∙ n .count .given .1) (w .is))) refl refl
+    (rw (← w .counted) (c .rowed .ensures))
 
 pub read-ids-spec : {M : Type 1} → statement M
 read-ids-spec =
@@ -78,16 +62,12 @@ read-ids-spec =
     get-u64-requires
     enum-known-e
     enum-known-count
-    read-rows-requires
+    run-ids-requires
     enum-known-e-2
-    enum-known-t
+    enum-told
     rowed-requires
     returns
     same-length
-    same-length-2
-    same-length-3
     returns-2
-    same-length-4
-    same-length-5
-    same-length-6
+    same-length-2
     returns-3)
