@@ -1,9 +1,10 @@
 //! Time of the proved library beside the original Rust on the same bytes, both release, turn by turn in one run: the best of several rounds.
 //!
-//! The library is lent buffers of the message's own size, and of 64 KiB (or the message's size where that is more), which it clears behind the message. All is
+//! Messages and the receiver, then the functions below them. The library is lent buffers of the message's own size, and of 64 KiB (or the message's size where that is more), which it clears behind the message. All is
 //! measured several times over; a row is of the run with the median ratio.
 mod payloads;
 mod session;
+mod texts;
 
 use fjord_gateway::ffi;
 use payloads::Sample;
@@ -50,10 +51,11 @@ pub fn best(sides: &mut [&mut dyn FnMut()]) -> Vec<f64> {
     least
 }
 
-/// A row of a table: what was measured, and the nanoseconds of the three sides in each run.
-pub struct Row {
+/// A row of a table: what was measured, and the nanoseconds of the sides in each run: Rust's, the library's, and the library's with larger memory where
+/// that makes a difference.
+struct Row {
     what: String,
-    runs: Vec<[f64; 3]>,
+    runs: Vec<Vec<f64>>,
 }
 
 /// A table: its heading, and its rows in the order in which they were first measured.
@@ -69,7 +71,7 @@ impl Table {
 
     /// Adds a run to the row of this name.
     pub fn add(&mut self, what: String, times: &[f64]) {
-        let times: [f64; 3] = times.try_into().expect("three sides");
+        let times = times.to_vec();
         match self.rows.iter_mut().find(|row| row.what == what) {
             Some(row) => row.runs.push(times),
             None => self.rows.push(Row { what, runs: vec![times] }),
@@ -78,21 +80,16 @@ impl Table {
 
     /// Each row by its run with the median ratio, and the least and the greatest ratio beside it.
     fn print(mut self) {
-        println!(
-            "\n| {} | ratio | least to greatest | ratio with the larger memory |\n|---|---|---|---|---|---|---|",
-            self.heading
-        );
+        println!("\n| {} |\n|{}", self.heading, "---|".repeat(self.heading.split(" | ").count()));
         for row in &mut self.rows {
-            let ratio = |[rust, own, _]: &[f64; 3]| own / rust;
+            let ratio = |times: &Vec<f64>| times[1] / times[0];
             row.runs.sort_by(|a, b| ratio(a).total_cmp(&ratio(b)));
-            let median @ [rust, own, large] = row.runs[row.runs.len() / 2];
+            let median = &row.runs[row.runs.len() / 2];
+            let digits = if median[0] < 100.0 { 1 } else { 0 };
+            let times: String = median.iter().map(|t| format!("{t:.digits$} | ")).collect();
             let (least, greatest) = (ratio(&row.runs[0]), ratio(&row.runs[row.runs.len() - 1]));
-            println!(
-                "| {} | {rust:.0} | {own:.0} | {large:.0} | **{:.2}** | {least:.2} to {greatest:.2} | {:.2} |",
-                row.what,
-                ratio(&median),
-                large / rust
-            );
+            let larger = median.get(2).map_or(String::new(), |t| format!(" {:.2} |", t / median[0]));
+            println!("| {} | {times}**{:.2}** | {least:.2} to {greatest:.2} |{larger}", row.what, ratio(median));
         }
     }
 }
@@ -217,17 +214,22 @@ fn encoding(samples: &[Sample], table: &mut Table) {
 fn main() {
     let runs = std::env::args().nth(1).map_or(5, |n| n.parse().expect("how many runs"));
     let samples = payloads::samples();
-    let sides = "Rust ns | at the message's size | at 64 KiB";
+    let session = session::Session::new(&samples);
+    let spread = "ratio | least to greatest";
+    let sides = format!("Rust ns | at the message's size | at 64 KiB | {spread} | ratio with the larger memory");
     let mut decode = Table::new(format!("decode | {sides}"));
     let mut encode = Table::new(format!("encode | {sides}"));
-    let session = session::Session::new(&samples);
-    let mut receive = Table::new(session.heading());
+    let mut receive = Table::new(format!("{} | {spread} | ratio with the larger memory", session.heading()));
+    let mut test = Table::new(format!("UTF-8 | `from_utf8` ns | `is_utf8` | {spread}"));
+    let mut store = Table::new(format!("store | Rust ns | the library's | {spread}"));
     for _ in 0..runs {
         decoding(&samples, &mut decode);
         encoding(&samples, &mut encode);
         session.receiving(&mut receive);
+        texts::testing(&mut test);
+        texts::storing(&mut store);
     }
-    decode.print();
-    encode.print();
-    receive.print();
+    for table in [decode, encode, receive, test, store] {
+        table.print();
+    }
 }

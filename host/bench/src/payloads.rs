@@ -61,7 +61,7 @@ pub fn samples() -> Vec<Sample> {
     let labels = names("scan ward.prescription.Predicate by drug ", 64);
     let steps =
         labels.iter().enumerate().map(|(i, label)| Step { label, examined: i as u64 * 1000, full_scan: i % 9 == 0 });
-    let ids: Vec<u64> = (0..4096u64).map(|i| (i % 27) << 40 | i * 37).collect();
+    let ids: Vec<u64> = (0..4096u64).map(|i| ((i % 27) << 40) | (i * 37)).collect();
     let text = "The database \"ward-7\" is open for writing in another session. ".repeat(17);
     let query = "D where ward.prescription.Dose { drug: D, amount: { unit: \"mg\" } }; ".repeat(61);
     vec![
