@@ -1,17 +1,6 @@
-//! Makes the static library with the Rattle toolchain, which proves it first, and links it.
-use std::path::Path;
-use std::process::Command;
+mod archive;
 
 fn main() {
-    let root = Path::new(env!("CARGO_MANIFEST_DIR")).parent().expect("host/ stands in the repository");
-    let made = Command::new("rt")
-        .args(["staticlib", "gateway"])
-        .current_dir(root)
-        .status()
-        .expect("the Rattle toolchain is on the path");
-    assert!(made.success(), "the static library was not proved");
-    println!("cargo:rustc-link-search=native={}", root.join("target/staticlib").display());
-    println!("cargo:rustc-link-lib=static=gateway");
-    println!("cargo:rerun-if-changed={}", root.join("crates.txt").display());
-    println!("cargo:rerun-if-changed={}", root.join("crates").display());
+    let host = std::path::Path::new(env!("CARGO_MANIFEST_DIR"));
+    archive::link(host.parent().expect("host/ stands in the repository"), "gateway");
 }
