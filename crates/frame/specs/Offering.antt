@@ -1,11 +1,14 @@
 -- Opening a receiver, and offering it a piece: what both do for every receiver and all lent memory.
 use mathlib.Core.Bool.{Bool, true}
-use mathlib.Core.List.{List, _++_}
+use mathlib.Core.Path.{_≡_, refl}
+use mathlib.Core.List.{List, [], _∷_, _++_}
 use Prim.Native.Nat.{ℕ, _+_, _-_}
 use lib.Dec.{eqb, ltb, leb}
 use lib.ListN.{length, take, drop, replicate}
 use Rattle.varint.specs.Choice.{pick}
+use Rattle.varint.specs.Fixed.{le}
 use Rattle.varint.specs.Refusals.{codeOf}
+use Rattle.varint.specs.Stores.{part}
 use Rattle.varint.specs.declared.error.Code.{Code}
 use Rattle.varint.specs.declared.error.Refusal.the-variants.{BadReceiver, BadKindTable}
 use Rattle.protocol.specs.Decoding.{Left}
@@ -16,8 +19,8 @@ use Rattle.frame.specs.declared.receiver.Offered.{Offered}
 use Rattle.frame.specs.declared.receiver.Outcome.{Outcome}
 use Rattle.frame.specs.declared.receiver.Outcome.the-variants.{More, Handed, Stopped, Refused}
 use Rattle.frame.specs.declared.FrameHeader.{FrameHeader}
-use Rattle.frame.specs.Frames.{kindOf, headerOf}
-use Rattle.frame.specs.Worlds.{Limits, Setup, World, receiverOf, running, pad}
+use Rattle.frame.specs.Frames.{kindOf, lengthOf, headerOf}
+use Rattle.frame.specs.Worlds.{Limits, Setup, World, editor, receiverOf, running, pad}
 use Rattle.frame.specs.Reading.{Verdict, refuse, gather, judge, decoded, lentBy}
 
 -- ---- opening
@@ -140,6 +143,23 @@ lengthens l r room len =
     pick (eqb room (r .«hold_len»))
     (pick (eqb (r .stop) 0) (pick (eqb (r .«header_len») 9) (heldAfter (judge l (r .«hold_len») (r .header)) (r .«payload_len») len) 0) 0)
     0
+
+-- the frame of document 01's lister, its header and one of three payload bytes held: a second byte lengthens it, two more end it, and a hold of another
+-- length is refused
+abbrev gathering : Receiver
+gathering = receiverOf (record { table = []; room = 4 }) (0x05 ∷ 0x01 ∷ 0 ∷ 0 ∷ 0 ∷ 0x03 ∷ 0 ∷ 0 ∷ 0 ∷ []) 9 1 running
+
+example-lengthens : lengthens editor gathering 4 1 ≡ 2
+unfolding lengthens judge lengthOf le part
+example-lengthens = refl
+
+example-ends : lengthens editor gathering 4 2 ≡ 0
+unfolding lengthens judge lengthOf le part
+example-ends = refl
+
+example-declined : lengthens editor gathering 5 1 ≡ 0
+unfolding lengthens judge lengthOf le part
+example-declined = refl
 
 -- ---- the memory of a call, as the definitions have it
 

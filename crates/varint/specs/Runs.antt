@@ -1,4 +1,4 @@
--- Runs of varints: `count` of them, one behind the other, as far as none is refused.
+-- Runs of varints: `count` of them, one behind the other, as far as none is refused. "5 ids: count, raw ids" is a count and such a run.
 use mathlib.Core.Path.{_≡_, refl}
 use mathlib.Core.List.{List, [], _∷_}
 use Prim.Native.Nat.{ℕ, zero, suc, _+_}
