@@ -13,16 +13,16 @@ use Rattle.varint.specs.declared.error.Refusal.{Refusal}
 use Rattle.frame.specs.declared.receiver.Receiver.{Receiver}
 use Rattle.frame.specs.declared.receiver.Outcome.the-variants.{More, Handed, Stopped, Refused}
 use Rattle.frame.specs.Worlds.{Limits, Setup, Lent, editor, fresh}
-use Rattle.frame.specs.Reading.{Event, frame, halt, Run, done, after, refuse, judge, lentBy, First, short, bad, whole, first, held, ended, answered, frameOf, read, reading}
+use Rattle.frame.specs.Reading.{Event, frame, halt, denied, Run, done, after, refuse, judge, lentBy, First, short, bad, whole, first, held, ended, answered, frameOf, read, reading}
 use Rattle.frame.specs.Offering.{Offer, opens}
-use Rattle.frame.specs.Driving.{joined, plus, later, drive, size, driving}
-use Rattle.frame.specs.Runs.{opened, EveryCut}
+use Rattle.frame.specs.Driving.{joined, plus, Driven, onward, handing, later, drive, size, driving}
+use Rattle.frame.specs.Runs.{opened, Cuts, EveryCut}
 use Rattle.frame.proofs.ListLaws.{drop-append}
 use Rattle.frame.proofs.HeldLaws.{held-none}
 use Rattle.frame.proofs.Firsts.{View, v-head, v-load, v-bad, v-whole, view, bad-stays, whole-stays, room, early, stop-number}
 use Rattle.frame.proofs.OfferSteps.{step, offer-is}
 use Rattle.frame.proofs.ReadSteps.{read-short, read-bad, read-whole, answered-same, frame-same, none-short}
-use Rattle.frame.proofs.Stops.{plus-zero, later-stopped}
+use Rattle.frame.proofs.Stops.{plus-zero, later-stopped, driving-repeats}
 
 -- ---- runs
 
@@ -38,22 +38,22 @@ module _ (l : Limits) (c : Setup) where
   -- Pieces offered where h is held, the bytes of h counted too, come to the reading of h and the pieces: with steps enough on both sides.
   abbrev Drives : ℕ → Type 0
   Drives f = (n : ℕ) (h : List ℕ) (b : Lent) (ps : List (List ℕ)) → View l c h short → size ps < f → length (h ++ joined ps) < n
-      → plus (length h) (drive l f (held l c h b) ps) ≡ read l c n (h ++ joined ps) b
+      → plus (length h) (drive l f (held l c h b) ps .run) ≡ read l c n (h ++ joined ps) b
 
   module _ (f n : ℕ) (ih : Drives f) (h : List ℕ) (b : Lent) (p : List ℕ) (ps : List (List ℕ)) (v : View l c h short)
       (enough : length p + size ps < f) (steps : length (h ++ p ++ joined ps) < suc n) where
     -- what follows an offer, as the driver has it
-    turn : Offer → Run
+    turn : Offer → Driven
     turn o =
         elim (o .outcome) [
-          | More ↦ plus (o .used) (drive l f (o .world) ps)
-          | Handed hd a ↦ after (frame hd a (o .world .lent)) (o .used) (drive l f (o .world) (drop (o .used) p ∷ ps))
-          | Stopped e ↦ after (halt e) (o .used) (later l (o .world) ps)
-          | Refused e ↦ after (halt e) (o .used) (later l (o .world) ps)
+          | More ↦ onward (o .used) (drive l f (o .world) ps)
+          | Handed hd a ↦ handing (frame hd a (o .world .lent)) (o .used) (drive l f (o .world) (drop (o .used) p ∷ ps))
+          | Stopped e ↦ handing (halt e) (o .used) (later l (o .world) ps)
+          | Refused e ↦ handing (denied e) (o .used) (drive l f (o .world) ps)
         ]
 
     Goal : Offer → Type 0
-    Goal o = plus (length h) (turn o) ≡ read l c (suc n) (h ++ p ++ joined ps) b
+    Goal o = plus (length h) (turn o .run) ≡ read l c (suc n) (h ++ p ++ joined ps) b
 
     at-short : View l c (h ++ p) short → Goal (step l c short h p b)
     unfolding Goal turn step
@@ -66,14 +66,14 @@ module _ (l : Limits) (c : Setup) where
         let z : codeOf e .number ≢ 0 = omega (arith, stop-number l (c .room) (take 9 (h ++ p)) e d) in
         plus-after (length h) (9 - length h) 9 (halt (codeOf e)) _ (omega arith)
         ∙ rw (
-          later-stopped l (ended l c (take 9 (h ++ p)) e b) (length-replicate (c .room) 0) z ps,
+          later-stopped l (ended l c (take 9 (h ++ p)) e b) (record { room = length-replicate (c .room) 0; stop = z }) ps,
           read-bad l c n (h ++ p ++ joined ps) b e (bad-stays l c (h ++ p) (joined ps) e (v-bad m d)),
           take-append-le 9 (h ++ p) (joined ps) m,
         )
 
     -- what is left of the run after the frame is what is left of the pieces
     rest : (m : ℕ) (b′ : Lent) → length h < 9 + m → 9 + m ≤ length (h ++ p)
-        → drive l f (fresh c b′) (drop (9 + m - length h) p ∷ ps) ≡ read l c n (drop (9 + m) (h ++ p ++ joined ps)) b′
+        → drive l f (fresh c b′) (drop (9 + m - length h) p ∷ ps) .run ≡ read l c n (drop (9 + m) (h ++ p ++ joined ps)) b′
     unfolding joined size
     rest m b′ e k =
         let z : drop (9 + m) h ≡ [] = drop-of-length-le h {i = 9 + m} (omega arith) in
@@ -100,11 +100,11 @@ module _ (l : Limits) (c : Setup) where
     at x (v-bad {e} m d) = at-bad e m d
     at x (v-whole {n = m} k d) = at-whole m (v-whole k d) (room l c h p m v d) k
 
-    drive-cons : plus (length h) (drive l (suc f) (held l c h b) (p ∷ ps)) ≡ read l c (suc n) (h ++ p ++ joined ps) b
+    drive-cons : plus (length h) (drive l (suc f) (held l c h b) (p ∷ ps) .run) ≡ read l c (suc n) (h ++ p ++ joined ps) b
     unfolding drive Goal turn
     drive-cons = subst Goal (sym (offer-is l c h p b (first l c (h ++ p)) v (view l c (h ++ p)))) (at (first l c (h ++ p)) (view l c (h ++ p)))
 
-  drive-nil : (f n : ℕ) (h : List ℕ) (b : Lent) → View l c h short → plus (length h) (drive l (suc f) (held l c h b) []) ≡ read l c (suc n) h b
+  drive-nil : (f n : ℕ) (h : List ℕ) (b : Lent) → View l c h short → plus (length h) (drive l (suc f) (held l c h b) [] .run) ≡ read l c (suc n) h b
   unfolding drive plus done
   drive-nil f n h b v = rw (add-zero, read-short l c n h b v)
 
@@ -116,12 +116,15 @@ module _ (l : Limits) (c : Setup) where
   drive-is (suc f) (suc n) h b (p ∷ ps) v a q = rw append-assoc at (drive-cons f n (drive-is f) h b p ps v (omega arith) (rw append-assoc q))
 
   -- from a fresh receiver, with steps enough
-  pub drive-fresh : (f n : ℕ) (ps : List (List ℕ)) (b : Lent) → size ps < f → length (joined ps) < n → drive l f (fresh c b) ps ≡ read l c n (joined ps) b
+  pub drive-fresh : (f n : ℕ) (ps : List (List ℕ)) (b : Lent) → size ps < f → length (joined ps) < n → drive l f (fresh c b) ps .run ≡ read l c n (joined ps) b
   drive-fresh f n ps b k m = rw (← held-none l c b) (sym (plus-zero _) ∙ drive-is f n [] b ps (none-short l c) k m)
 
-  pub cutting : (ps : List (List ℕ)) (b : Lent) → driving l (fresh c b) ps ≡ reading l c (joined ps) b
+  one-run : (ps : List (List ℕ)) (b : Lent) → driving l (fresh c b) ps .run ≡ reading l c (joined ps) b
   unfolding driving reading
-  cutting ps b = drive-fresh (suc (size ps)) (suc (length (joined ps))) ps b (omega arith) (omega arith)
+  one-run ps b = drive-fresh (suc (size ps)) (suc (length (joined ps))) ps b (omega arith) (omega arith)
+
+  pub cutting : (ps : List (List ℕ)) (b : Lent) → Cuts (driving l (fresh c b) ps) (reading l c (joined ps) b)
+  cutting ps b = record { run = one-run ps b; again = rw one-run at (driving-repeats l (fresh c b) ps) }
 
 -- demand 3, as specs/Runs states it
 pub every-cut : EveryCut
@@ -130,5 +133,5 @@ every-cut before table hold lent ps h = rw (eq-eqb _ _ h) (cutting editor (recor
 
 -- two cuts of one run end alike
 pub recut : (before : Receiver) (table hold : List ℕ) (lent : Lent) (ps qs : List (List ℕ)) → length table ≡ 256 → joined ps ≡ joined qs
-    → driving editor (opened (opens before table hold) lent) ps ≡ driving editor (opened (opens before table hold) lent) qs
-recut before table hold lent ps qs h e = every-cut before table hold lent ps h ∙ rw e (sym (every-cut before table hold lent qs h))
+    → driving editor (opened (opens before table hold) lent) ps .run ≡ driving editor (opened (opens before table hold) lent) qs .run
+recut before table hold lent ps qs h e = every-cut before table hold lent ps h .run ∙ rw e (sym (every-cut before table hold lent qs h .run))

@@ -10,4 +10,5 @@ pub mod ReadSteps
 pub mod ReadingLaws
 pub mod ReceiverFacts
 pub mod ReceiverSteps
+pub mod Rests
 pub mod Stops

@@ -38,7 +38,7 @@ module _ (l : Limits) (c : Setup) where
   fits h (v-head m) = pad-length (c .room) (drop 9 h) (rw length-drop (omega arith))
   fits h (v-load {n} m d k) = pad-length (c .room) (drop 9 h) (rw length-drop (omega (arith, gather-fits l (c .room) (take 9 h) n d)))
 
-  front : (h : List ℕ) → take (min 9 (length h)) (pad 9 (take 9 h)) ≡ take 9 h
+  pub front : (h : List ℕ) → take (min 9 (length h)) (pad 9 (take 9 h)) ≡ take 9 h
   unfolding pad
   front h = take-at (take 9 h) _ (min 9 (length h)) (length-take 9 h)
 

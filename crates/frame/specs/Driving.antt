@@ -4,7 +4,7 @@ use Prim.Native.Nat.{ℕ, zero, suc, _+_}
 use lib.ListN.{length, drop}
 use Rattle.frame.specs.declared.receiver.Outcome.the-variants.{More, Handed, Stopped, Refused}
 use Rattle.frame.specs.Worlds.{Limits, World}
-use Rattle.frame.specs.Reading.{frame, halt, Run, done, after}
+use Rattle.frame.specs.Reading.{Event, frame, halt, denied, Run, done, after}
 use Rattle.frame.specs.Offering.{Offer, offering}
 
 -- "the joined bytes"
@@ -16,29 +16,40 @@ joined (p ∷ ps) = p ++ joined ps
 unfoldable pub plus : ℕ → Run → Run
 plus n r = record { events = r .events; used = n + r .used; world = r .world }
 
-module _ (l : Limits) where
-  -- what each offer of a list of pieces gives, each piece offered once
-  unfoldable pub offers : World → List (List ℕ) → List Offer
-  offers w [] = []
-  offers w (p ∷ ps) = offering l w p ∷ offers (offering l w p .world) ps
+-- all that a list of pieces gives: the run, and what each offer after its stop gave, in order
+pub record Driven : Type 0 where
+  pub run : Run
+  pub again : List Offer
 
+-- an offer in the run, and then the rest: nothing handed out, or an event
+abbrev pub onward : ℕ → Driven → Driven
+onward n d = record { run = plus n (d .run); again = d .again }
+
+abbrev pub handing : Event → ℕ → Driven → Driven
+handing e n d = record { run = after e n (d .run); again = d .again }
+
+-- an offer after the stop, and then the rest: "its refusal counted there and not again"
+abbrev pub repeating : Offer → Driven → Driven
+repeating o d = record { run = plus (o .used) (d .run); again = o ∷ d .again }
+
+module _ (l : Limits) where
   -- "each later piece is offered once"
-  unfoldable pub later : World → List (List ℕ) → Run
-  later w [] = done 0 w
-  later w (p ∷ ps) = plus (offering l w p .used) (later (offering l w p .world) ps)
+  unfoldable pub later : World → List (List ℕ) → Driven
+  later w [] = record { run = done 0 w; again = [] }
+  later w (p ∷ ps) = repeating (offering l w p) (later (offering l w p .world) ps)
 
   -- "after a frame the rest is offered again. After a stop the run is over, its refusal counted there and not again: what is left of that piece
-  -- isn't offered". An offer that is refused without a stop ends the run as well; a fresh receiver never gives one.
-  unfoldable pub drive : (steps : ℕ) → World → List (List ℕ) → Run
-  drive zero w ps = done 0 w
-  drive (suc steps) w [] = done 0 w
+  -- isn't offered". An offer that is refused is no stop: the next piece is offered.
+  unfoldable pub drive : (steps : ℕ) → World → List (List ℕ) → Driven
+  drive zero w ps = record { run = done 0 w; again = [] }
+  drive (suc steps) w [] = record { run = done 0 w; again = [] }
   drive (suc steps) w (p ∷ ps) =
       let o : Offer = offering l w p in
       elim (o .outcome) [
-        | More ↦ plus (o .used) (drive steps (o .world) ps)
-        | Handed h a ↦ after (frame h a (o .world .lent)) (o .used) (drive steps (o .world) (drop (o .used) p ∷ ps))
-        | Stopped e ↦ after (halt e) (o .used) (later (o .world) ps)
-        | Refused e ↦ after (halt e) (o .used) (later (o .world) ps)
+        | More ↦ onward (o .used) (drive steps (o .world) ps)
+        | Handed h a ↦ handing (frame h a (o .world .lent)) (o .used) (drive steps (o .world) (drop (o .used) p ∷ ps))
+        | Stopped e ↦ handing (halt e) (o .used) (later (o .world) ps)
+        | Refused e ↦ handing (denied e) (o .used) (drive steps (o .world) ps)
       ]
 
 -- a step for each piece and each byte is enough
@@ -46,5 +57,5 @@ unfoldable pub size : List (List ℕ) → ℕ
 size [] = 0
 size (p ∷ ps) = suc (length p + size ps)
 
-unfoldable pub driving : Limits → World → List (List ℕ) → Run
+unfoldable pub driving : Limits → World → List (List ℕ) → Driven
 driving l w ps = drive l (suc (size ps)) w ps

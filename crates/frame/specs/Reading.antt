@@ -16,10 +16,11 @@ use Rattle.frame.specs.Frames.{kindOf, lengthOf, headerOf}
 use Rattle.frame.specs.Worlds.{Limits, Setup, Lent, World, receiverOf, running, pad}
 
 -- what is handed out: a frame "by kind, stream, length, and message or refusal with details, and by text, rows and nodes as they stand
--- when it is handed out"; or the stop's refusal
+-- when it is handed out"; or the stop's refusal. A driver can also meet an offer that is refused while nothing stopped the run: no reading has that.
 pub data Event : Type 0 where
   frame : FrameHeader → Answer → Lent → Event
   halt : Code → Event
+  denied : Code → Event
 
 -- all that a run leaves: what was handed out, "the bytes used in all", the receiver and the lent memory
 pub record Run : Type 0 where
