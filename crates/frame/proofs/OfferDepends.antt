@@ -57,7 +57,7 @@ module _ (l : Limits) (c : Setup) (g n : ℕ) (e : Code) (b : Lent) (hd hd′ x 
       rw same-header
       (after-pick (ltb (length h) 9) (alike _ _ c (length h) 0 e b (pad 9 h) (pad 9 h) x x′ refl same-room refl) (at-settles (judge l (c .room) h) h (9 - g) (drop (9 - g) p)))
 
-  same-counts : impossible l (one .receiver) ≡ impossible l (other .receiver)
+  same-counts : impossible l (one .receiver .progress) ≡ impossible l (other .receiver .progress)
   unfolding impossible
   same-counts = rw same-header
 
@@ -67,15 +67,15 @@ module _ (l : Limits) (c : Setup) (g n : ℕ) (e : Code) (b : Lent) (hd hd′ x 
       rw (same-room, same-counts)
       (after-pick
       (eqb (length x′) (c .room))
-      (after-pick (eqb (e .number) 0) (after-pick (impossible l (other .receiver)) (at-declined _) (at-takes p)) (at-declined e))
+      (after-pick (eqb (e .number) 0) (after-pick (impossible l (other .receiver .progress)) (at-declined _) (at-takes p)) (at-declined e))
       (at-declined _))
 
 pub offer-depends : (l : Limits) (w w′ : World) (p : List ℕ) → Agree w w′ → AgreeAfter (offering l w p) (offering l w′ p)
 offer-depends l w w′ p a =
-    let g : ℕ = w .receiver .«header_len» in
-    let n : ℕ = w .receiver .«payload_len» in
-    let eh : take g (w .receiver .header) ≡ take g (w′ .receiver .header) = rw (← a .headerLen) at (a .header) in
+    let g : ℕ = w .receiver .progress .«header_len» in
+    let n : ℕ = w .receiver .progress .«payload_len» in
+    let eh : take g (w .receiver .progress .header) ≡ take g (w′ .receiver .progress .header) = rw (← a .headerLen) at (a .header) in
     let ex : take n (w .hold) ≡ take n (w′ .hold) = rw (← a .payloadLen) at (a .payload) in
-    let e : record { receiver = receiverOf (setupOf (w .receiver)) (w′ .receiver .header) g n (stopOf (w .receiver)); hold = w′ .hold; lent = w .lent } ≡ w′ =
-    λ i. record { receiver = receiverOf (a .setup i) (w′ .receiver .header) (a .headerLen i) (a .payloadLen i) (a .stop i); hold = w′ .hold; lent = a .lent i } in
-    rw (← e) (at-offering l (setupOf (w .receiver)) g n (stopOf (w .receiver)) (w .lent) (w .receiver .header) (w′ .receiver .header) (w .hold) (w′ .hold) eh (a .room) ex p)
+    let e : record { receiver = receiverOf (setupOf (w .receiver)) (w′ .receiver .progress .header) g n (stopOf (w .receiver)); hold = w′ .hold; lent = w .lent } ≡ w′ =
+    λ i. record { receiver = receiverOf (a .setup i) (w′ .receiver .progress .header) (a .headerLen i) (a .payloadLen i) (a .stop i); hold = w′ .hold; lent = a .lent i } in
+    rw (← e) (at-offering l (setupOf (w .receiver)) g n (stopOf (w .receiver)) (w .lent) (w .receiver .progress .header) (w′ .receiver .progress .header) (w .hold) (w′ .hold) eh (a .room) ex p)

@@ -42,7 +42,7 @@ module _ (l : Limits) (c : Setup) where
   unfolding pad
   front h = take-at (take 9 h) _ (min 9 (length h)) (length-take 9 h)
 
-  possible : (h : List ℕ) (b : Lent) → View l c h short → impossible l (held l c h b .receiver) ≡ false
+  possible : (h : List ℕ) (b : Lent) → View l c h short → impossible l (held l c h b .receiver .progress) ≡ false
   unfolding impossible held
   possible h b (v-head m) =
       let g : min 9 (length h) ≡ length h = omega arith in

@@ -47,12 +47,12 @@ goes-late have (refuse e) h = clash refl h
 goes-late have (gather n) h = let k : have < n = leb-false n have h in (omega arith, omega arith)
 
 module _ (l : Limits) where
-  goes : (r : Receiver) (p : List ℕ) → impossible l r ≡ false
-      → (r .«header_len» ≤ 9) × Goes (9 - r .«header_len») (r .«payload_len») (judge l (r .«hold_len») (headerHeld r ++ take (9 - r .«header_len») p))
+  goes : (r : Receiver) (p : List ℕ) → impossible l (r .progress) ≡ false
+      → (r .progress .«header_len» ≤ 9) × Goes (9 - r .progress .«header_len») (r .progress .«payload_len») (judge l (r .progress .«hold_len») (headerHeld (r .progress) ++ take (9 - r .progress .«header_len») p))
   unfolding impossible
   goes r p h =
-      let g : ℕ = r .«header_len» in
-      let have : ℕ = r .«payload_len» in
+      let g : ℕ = r .progress .«header_len» in
+      let have : ℕ = r .progress .«payload_len» in
       ⊎-elim
       (λ (k : 9 < g). clash refl (rw (lt-ltb 9 g k) at h))
       (λ (k : g ≤ 9). (
@@ -60,10 +60,10 @@ module _ (l : Limits) where
         ⊎-elim
             (λ (m : g < 9).
             let z : have ≡ 0 = omega (arith, ltb-false 0 have (rw (le-ltb 9 g k, lt-ltb g 9 m) at h)) in
-            rw z (goes-early (9 - g) (judge l (r .«hold_len») (headerHeld r ++ take (9 - g) p)) (omega arith)))
+            rw z (goes-early (9 - g) (judge l (r .progress .«hold_len») (headerHeld (r .progress) ++ take (9 - g) p)) (omega arith)))
             (λ (m : 9 ≤ g).
             let z : 9 - g ≡ 0 = omega arith in
-            rw (z, append-nil) (goes-late have (judge l (r .«hold_len») (headerHeld r)) (rw (le-ltb 9 g k, le-ltb g 9 m) at h)))
+            rw (z, append-nil) (goes-late have (judge l (r .progress .«hold_len») (headerHeld (r .progress))) (rw (le-ltb 9 g k, le-ltb g 9 m) at h)))
             (below g 9),
       ))
       (below 9 g)
@@ -74,32 +74,32 @@ module _ (l : Limits) where
     abbrev Fits : Offer → Type 0
     Fits o = Uses (o .outcome) (o .used) (length p)
 
-    at-settles : (v : Verdict) (hd : List ℕ) (u : ℕ) (q : List ℕ) → u + length q ≡ length p → Goes u (w .receiver .«payload_len») v → Fits (settles l v w hd u q)
+    at-settles : (v : Verdict) (hd : List ℕ) (u : ℕ) (q : List ℕ) → u + length q ≡ length p → Goes u (w .receiver .progress .«payload_len») v → Fits (settles l v w hd u q)
     unfolding settles loads handed
     at-settles (refuse e) hd u q s g = (g, omega arith)
     at-settles (gather n) hd u q s g =
-        let have : ℕ = w .receiver .«payload_len» in
+        let have : ℕ = w .receiver .progress .«payload_len» in
         let y : List ℕ = payloadHeld w ++ take (n - have) q in
         let a : length y ≡ min have (length (w .hold)) + min (n - have) (length q) = rw (length-append, length-take have (w .hold), length-take (n - have) q) in
         pick-cases Fits (ltb (length y) n) (λ _. s) (λ t. (g .1, omega (arith, ltb-false (length y) n t)))
 
-    at-takes : impossible l (w .receiver) ≡ false → Fits (takes l w p)
+    at-takes : impossible l (w .receiver .progress) ≡ false → Fits (takes l w p)
     unfolding takes
     at-takes h =
         let r : Receiver = w .receiver in
-        let lacks : ℕ = 9 - r .«header_len» in
-        let y : List ℕ = headerHeld r ++ take lacks p in
-        let a : length y ≡ min (r .«header_len») (length (r .header)) + min lacks (length p) = rw (length-append, length-take _ (r .header), length-take lacks p) in
-        let g : r .«header_len» ≤ 9 = goes r p h .0 in
+        let lacks : ℕ = 9 - r .progress .«header_len» in
+        let y : List ℕ = headerHeld (r .progress) ++ take lacks p in
+        let a : length y ≡ min (r .progress .«header_len») (length (r .progress .header)) + min lacks (length p) = rw (length-append, length-take _ (r .progress .header), length-take lacks p) in
+        let g : r .progress .«header_len» ≤ 9 = goes r p h .0 in
         pick-cases Fits (ltb (length y) 9)
         (λ _. refl)
-        (λ t. at-settles (judge l (r .«hold_len») y) y lacks (drop lacks p) (rw length-drop (omega (arith, ltb-false (length y) 9 t))) (goes r p h .1))
+        (λ t. at-settles (judge l (r .progress .«hold_len») y) y lacks (drop lacks p) (rw length-drop (omega (arith, ltb-false (length y) 9 t))) (goes r p h .1))
 
     pub offer-uses : Uses (offering l w p .outcome) (offering l w p .used) (length p)
     unfolding offering
     offer-uses =
-        pick-cases Fits (eqb (length (w .hold)) (w .receiver .«hold_len»))
-        (λ _. pick-cases Fits (eqb (w .receiver .stop) 0) (λ _. pick-cases Fits (impossible l (w .receiver)) (λ _. refl) at-takes) (λ _. refl))
+        pick-cases Fits (eqb (length (w .hold)) (w .receiver .progress .«hold_len»))
+        (λ _. pick-cases Fits (eqb (w .receiver .progress .stop) 0) (λ _. pick-cases Fits (impossible l (w .receiver .progress)) (λ _. refl) at-takes) (λ _. refl))
         (λ _. refl)
 
     pub offer-within : offering l w p .used ≤ length p

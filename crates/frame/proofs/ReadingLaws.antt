@@ -58,8 +58,8 @@ module _ (l : Limits) (c : Setup) where
   -- ---- bytes after a stop
 
   -- by what stands first in s, with the same for what follows a frame
-  stopped-step : (n : ℕ) (s y : List ℕ) (b : Lent) (x : First) → View l c s x → read l c (suc n) s b .world .receiver .stop ≢ 0
-      → ((m : ℕ) (b′ : Lent) → 9 + m ≤ length s → read l c n (drop (9 + m) s) b′ .world .receiver .stop ≢ 0
+  stopped-step : (n : ℕ) (s y : List ℕ) (b : Lent) (x : First) → View l c s x → read l c (suc n) s b .world .receiver .progress .stop ≢ 0
+      → ((m : ℕ) (b′ : Lent) → 9 + m ≤ length s → read l c n (drop (9 + m) s) b′ .world .receiver .progress .stop ≢ 0
       → read l c n (drop (9 + m) s ++ y) b′ ≡ read l c n (drop (9 + m) s) b′)
       → read l c (suc n) (s ++ y) b ≡ read l c (suc n) s b
   unfolding after done held
@@ -77,12 +77,12 @@ module _ (l : Limits) (c : Setup) where
       )
       (ap (after (frameOf l c m s b) (9 + m)) (ih m (lentBy (answered l c m s b)) h (rw (read-whole l c n s b m (v-whole h d)) at k)))
 
-  read-stopped : (n : ℕ) (s y : List ℕ) (b : Lent) → length s < n → read l c n s b .world .receiver .stop ≢ 0 → read l c n (s ++ y) b ≡ read l c n s b
+  read-stopped : (n : ℕ) (s y : List ℕ) (b : Lent) → length s < n → read l c n s b .world .receiver .progress .stop ≢ 0 → read l c n (s ++ y) b ≡ read l c n s b
   read-stopped zero s y b h k = absurd (omega arith)
   read-stopped (suc n) s y b h k =
       stopped-step n s y b (first l c s) (view l c s) k (λ m b′ f q. read-stopped n (drop (9 + m) s) y b′ (rw length-drop (omega arith)) q)
 
-  pub reading-stopped : (s y : List ℕ) (b : Lent) → reading l c s b .world .receiver .stop ≢ 0 → reading l c (s ++ y) b ≡ reading l c s b
+  pub reading-stopped : (s y : List ℕ) (b : Lent) → reading l c s b .world .receiver .progress .stop ≢ 0 → reading l c (s ++ y) b ≡ reading l c s b
   unfolding reading
   reading-stopped s y b k =
       let h : length s < suc (length (s ++ y)) = rw length-append (omega arith) in

@@ -22,14 +22,15 @@ use Rattle.protocol.specs.declared.message.Answer.{Answer}
 use Rattle.frame.specs.declared.FrameHeader.{FrameHeader}
 use Rattle.frame.specs.declared.HeaderAnswer.{HeaderAnswer}
 use Rattle.frame.specs.declared.HeaderAnswer.the-variants.{Header, Refused}
-use Rattle.frame.specs.declared.receiver.Offered.{Offered}
+use Rattle.frame.specs.declared.receiver.Stepped.{Stepped}
 use Rattle.frame.specs.declared.receiver.Outcome.the-variants.{More, Handed, Stopped, Refused as Declined}
+use Rattle.frame.specs.declared.receiver.Progress.{Progress}
 use Rattle.frame.specs.declared.receiver.Receiver.{Receiver}
 use Rattle.frame.specs.Frames.{lengthOf, headerOf, decodeHeader}
-use Rattle.frame.specs.Worlds.{World, editor, receiverOf, running, pad}
+use Rattle.frame.specs.Worlds.{World, editor, progressOf, receiverOf, running, pad}
 use Rattle.frame.specs.Reading.{Verdict, refuse, gather, judge, decoded}
 use Rattle.frame.specs.declared.receiver.Opening.the-variants.{Accepted}
-use Rattle.frame.specs.Offering.{Opens, opens, stopOf, setupOf, advanced, headerHeld, overfull, impossible, handed, loads, settles, takes, offering, heldAfter, lengthens, worldOf, offerOf}
+use Rattle.frame.specs.Offering.{Opens, opens, stopOf, setupOf, headerHeld, overfull, impossible, handed, loads, settles, takes, offering, worldOf, offerAt}
 use Rattle.frame.proofs.Firsts.{gather-fits}
 
 -- ---- nine header bytes
@@ -70,22 +71,22 @@ gathers room hd h (e, f) l =
 
 -- ---- impossible counts
 
-module _ (r : Receiver) (nine : length (r .header) ≡ 9) where
-  pub impossible-nine : (v : Verdict) → r .«header_len» ≤ 9 → 9 ≤ r .«header_len» → judge editor (r .«hold_len») (r .header) ≡ v
-      → impossible editor r ≡ overfull v (r .«payload_len»)
+module _ (p : Progress) (nine : length (p .header) ≡ 9) where
+  pub impossible-nine : (v : Verdict) → p .«header_len» ≤ 9 → 9 ≤ p .«header_len» → judge editor (p .«hold_len») (p .header) ≡ v
+      → impossible editor p ≡ overfull v (p .«payload_len»)
   unfolding impossible
   impossible-nine v l m e =
-      let t : take (r .«header_len») (r .header) ≡ r .header = take-all (r .«header_len») (r .header) (omega arith) in
+      let t : take (p .«header_len») (p .header) ≡ p .header = take-all (p .«header_len») (p .header) (omega arith) in
       rw (le-ltb _ _ l, le-ltb _ _ m, t, e)
 
   -- what the code may rely on once the counts are possible
-  header-possible : (b : Bool) → ltb 9 (r .«header_len») ≡ b → impossible editor r ≡ false → r .«header_len» ≤ 9
+  header-possible : (b : Bool) → ltb 9 (p .«header_len») ≡ b → impossible editor p ≡ false → p .«header_len» ≤ 9
   unfolding impossible
   header-possible false e f = ltb-false _ _ e
   header-possible true e f = let z : true ≡ false = rw e at f in absurd (true≢false z)
 
-  pub header-fits : impossible editor r ≡ false → r .«header_len» ≤ 9
-  header-fits f = header-possible (ltb 9 (r .«header_len»)) refl f
+  pub header-fits : impossible editor p ≡ false → p .«header_len» ≤ 9
+  header-fits f = header-possible (ltb 9 (p .«header_len»)) refl f
 
 -- ---- a copy over the whole of an array
 
@@ -103,14 +104,13 @@ cleared d = rw sub-zero
 
 -- ---- an opening
 
-pub opened-over : (r : Receiver) (entries table hold hold′ : List ℕ) → length table ≡ 256 → entries ≡ table → hold′ ≡ clearFrom hold 0
-    → _≡_ {A = Opens}
-    (record { opening = Accepted; receiver = receiverOf (record { table = entries; room = length hold′ }) (replicate 9 0) 0 0 running; hold = hold′ })
-    (opens r table hold)
+pub opened-over : (r : Receiver) (entries table hold hold′ : List ℕ) (p : Progress) → length table ≡ 256 → entries ≡ table → hold′ ≡ clearFrom hold 0
+    → p ≡ progressOf (length hold′) (replicate 9 0) 0 0 running
+    → _≡_ {A = Opens} (record { opening = Accepted; receiver = record { table = entries; progress = p }; hold = hold′ }) (opens r table hold)
 unfolding opens
-opened-over r entries table hold hold′ n e h =
+opened-over r entries table hold hold′ p n e h q =
     let z : length hold′ ≡ length hold = rw h (length-clear hold 0) in
-    rw (eq-eqb _ _ n, z, h, cleared hold, e)
+    rw (q, eq-eqb _ _ n, z, h, cleared hold, e)
 
 -- ---- the header that is held, and the bytes that it lacks
 
@@ -135,70 +135,78 @@ header-filled held z p at n l c =
     ∙ ap (λ (i : ℕ). replicate i 0) e in
     rw c (sets-eq (take (9 - at) p) (take at held ++ replicate (length held - at) 0) at room ∙ rw (t, d, length-append, a))
 
+pub header-kept : (held p : List ℕ) (at : ℕ) → length held ≡ 9 → at ≡ 9 → held ≡ pad 9 (take at held ++ take (9 - at) p)
+unfolding pad
+header-kept held p at n e =
+    let k : 9 - at ≡ 0 = omega arith in
+    let t : take at held ≡ held = take-all at held (omega arith) in
+    let z : 9 - length held ≡ 0 = omega arith in
+    rw (k, t, append-nil, z, append-nil)
+
 -- ---- a frame is handed out
 
-pub handed-out : (r r′ : Receiver) (h : FrameHeader) (u entry : ℕ) (a : Answer) (hold hold′ text rows nodes text′ rows′ nodes′ : List ℕ)
+pub handed-out : (r : Receiver) (p′ : Progress) (h : FrameHeader) (u entry : ℕ) (a : Answer) (hold hold′ text rows nodes text′ rows′ nodes′ : List ℕ)
     → entry ≡ getD (r .table) (h .kind) 0
     → _≡_ {A = Left} (record { answer = a; text = text′; rows = rows′; nodes = nodes′ }) (decodeMessage 67108864 64 entry (take (h .length) hold) text rows nodes)
-    → hold′ ≡ clearFrom hold 0 → r′ ≡ advanced r (replicate 9 0) 0 0
-    → offerOf (record { receiver = r′; used = u; outcome = Handed h a }) hold′ text′ rows′ nodes′
+    → hold′ ≡ clearFrom hold 0 → p′ ≡ progressOf (r .progress .«hold_len») (replicate 9 0) 0 0 (stopOf r)
+    → offerAt (r .table) (record { progress = p′; used = u; outcome = Handed h a }) hold′ text′ rows′ nodes′
     ≡ handed (worldOf r hold text rows nodes) h u (decoded editor (setupOf r) (h .kind) (take (h .length) hold) (record { text = text; rows = rows; nodes = nodes }))
 unfolding handed decoded
-handed-out r r′ h u entry a hold hold′ text rows nodes text′ rows′ nodes′ ee ed eh er =
+handed-out r p′ h u entry a hold hold′ text rows nodes text′ rows′ nodes′ ee ed eh er =
     rw (← ee, ← ed, eh, cleared hold, er)
 
 -- ---- the payload is gathered
 
-module _ (r : Receiver) (bytes : List ℕ) (u n : ℕ) (piece hold hold′ text rows nodes : List ℕ) (have : r .«payload_len» ≤ n) (fits : n ≤ length hold)
-    (inside : u ≤ length piece) (stored : hold′ ≡ sets hold (r .«payload_len») (part piece u (n - r .«payload_len»))) where
+module _ (r : Receiver) (bytes : List ℕ) (u n : ℕ) (piece hold hold′ text rows nodes : List ℕ) (have : r .progress .«payload_len» ≤ n) (fits : n ≤ length hold)
+    (inside : u ≤ length piece) (stored : hold′ ≡ sets hold (r .progress .«payload_len») (part piece u (n - r .progress .«payload_len»))) where
   abbrev payload : List ℕ
-  payload = take (r .«payload_len») hold ++ take (n - r .«payload_len») (drop u piece)
+  payload = take (r .progress .«payload_len») hold ++ take (n - r .progress .«payload_len») (drop u piece)
 
-  payload-length : length payload ≡ r .«payload_len» + min (n - r .«payload_len») (length piece - u)
+  payload-length : length payload ≡ r .progress .«payload_len» + min (n - r .progress .«payload_len») (length piece - u)
   payload-length = rw (length-append, length-take, length-take, length-drop) (omega arith)
 
   hold-is : hold′ ≡ payload ++ drop (length payload) hold
   unfolding part
   hold-is =
-      let a : length (take (r .«payload_len») hold) ≡ r .«payload_len» = length-take-le (r .«payload_len») hold (omega arith) in
-      let m : r .«payload_len» + length (take (n - r .«payload_len») (drop u piece)) ≤ length hold = rw length-take (omega arith) in
-      stored ∙ sets-eq (take (n - r .«payload_len») (drop u piece)) hold (r .«payload_len») m ∙ rw (length-append, a)
+      let a : length (take (r .progress .«payload_len») hold) ≡ r .progress .«payload_len» = length-take-le (r .progress .«payload_len») hold (omega arith) in
+      let m : r .progress .«payload_len» + length (take (n - r .progress .«payload_len») (drop u piece)) ≤ length hold = rw length-take (omega arith) in
+      stored ∙ sets-eq (take (n - r .progress .«payload_len») (drop u piece)) hold (r .progress .«payload_len») m ∙ rw (length-append, a)
 
-  pub loaded-short : (r′ : Receiver) → length piece - u < n - r .«payload_len» → r′ ≡ advanced r bytes 9 (r .«payload_len» + (length piece - u))
-      → offerOf (record { receiver = r′; used = length piece; outcome = More }) hold′ text rows nodes
+  pub loaded-short : (p′ : Progress) → length piece - u < n - r .progress .«payload_len» → p′ ≡ progressOf (r .progress .«hold_len») bytes 9 (r .progress .«payload_len» + (length piece - u)) (stopOf r)
+      → offerAt (r .table) (record { progress = p′; used = length piece; outcome = More }) hold′ text rows nodes
       ≡ loads editor (worldOf r hold text rows nodes) bytes u (drop u piece) n
   unfolding loads
-  loaded-short r′ l e =
-      let k : length payload ≡ r .«payload_len» + (length piece - u) = omega (arith, payload-length) in
+  loaded-short p′ l e =
+      let k : length payload ≡ r .progress .«payload_len» + (length piece - u) = omega (arith, payload-length) in
       let m : length payload < n = omega arith in
       let v : u + length (drop u piece) ≡ length piece = rw length-drop (omega arith) in
       rw (lt-ltb _ _ m, ← hold-is, k, v, e)
 
-  loaded-take : n - r .«payload_len» ≤ length piece - u → take n hold′ ≡ payload
+  loaded-take : n - r .progress .«payload_len» ≤ length piece - u → take n hold′ ≡ payload
   loaded-take l =
       let k : length payload ≡ n = omega (arith, payload-length) in
       rw hold-is (take-at payload (drop (length payload) hold) n k)
 
-  pub loaded-whole : (h : FrameHeader) → h ≡ headerOf bytes → h .length ≡ n → n - r .«payload_len» ≤ length piece - u
-      → handed (worldOf r hold′ text rows nodes) h (u + (n - r .«payload_len»)) (decoded editor (setupOf r) (h .kind) (take n hold′) (record { text = text; rows = rows; nodes = nodes }))
+  pub loaded-whole : (h : FrameHeader) → h ≡ headerOf bytes → h .length ≡ n → n - r .progress .«payload_len» ≤ length piece - u
+      → handed (worldOf r hold′ text rows nodes) h (u + (n - r .progress .«payload_len»)) (decoded editor (setupOf r) (h .kind) (take n hold′) (record { text = text; rows = rows; nodes = nodes }))
       ≡ loads editor (worldOf r hold text rows nodes) bytes u (drop u piece) n
   unfolding loads handed
   loaded-whole h e f l =
       let k : n ≤ length payload = omega (arith, payload-length) in
-      let z : length hold′ ≡ length hold = rw stored (length-sets hold (r .«payload_len») (part piece u (n - r .«payload_len»))) in
+      let z : length hold′ ≡ length hold = rw stored (length-sets hold (r .progress .«payload_len») (part piece u (n - r .progress .«payload_len»))) in
       rw (le-ltb _ _ k, loaded-take l, z, e)
 
 -- ---- a stop
 
-pub stopped-run : (r r′ : Receiver) (bytes : List ℕ) (u : ℕ) (e : Refusal) (code : Code) (q hold hold′ text rows nodes : List ℕ)
-    → judge editor (r .«hold_len») bytes ≡ refuse e → code ≡ codeOf e → hold′ ≡ clearFrom hold 0 → r′ ≡ receiverOf (setupOf r) bytes 9 0 code
-    → offerOf (record { receiver = r′; used = u; outcome = Stopped code }) hold′ text rows nodes
-    ≡ settles editor (judge editor (r .«hold_len») bytes) (worldOf r hold text rows nodes) bytes u q
+pub stopped-run : (r : Receiver) (p′ : Progress) (bytes : List ℕ) (u : ℕ) (e : Refusal) (code : Code) (q hold hold′ text rows nodes : List ℕ)
+    → judge editor (r .progress .«hold_len») bytes ≡ refuse e → code ≡ codeOf e → hold′ ≡ clearFrom hold 0 → p′ ≡ progressOf (r .progress .«hold_len») bytes 9 0 code
+    → offerAt (r .table) (record { progress = p′; used = u; outcome = Stopped code }) hold′ text rows nodes
+    ≡ settles editor (judge editor (r .progress .«hold_len») bytes) (worldOf r hold text rows nodes) bytes u q
 unfolding settles
-stopped-run r r′ bytes u e code q hold hold′ text rows nodes j c h f = rw (j, h, cleared hold, f, c)
+stopped-run r p′ bytes u e code q hold hold′ text rows nodes j c h f = rw (j, h, cleared hold, f, c)
 
-pub gathered : (r : Receiver) (bytes : List ℕ) (u n : ℕ) (q hold text rows nodes : List ℕ) → judge editor (r .«hold_len») bytes ≡ gather n
-    → loads editor (worldOf r hold text rows nodes) bytes u q n ≡ settles editor (judge editor (r .«hold_len») bytes) (worldOf r hold text rows nodes) bytes u q
+pub gathered : (r : Receiver) (bytes : List ℕ) (u n : ℕ) (q hold text rows nodes : List ℕ) → judge editor (r .progress .«hold_len») bytes ≡ gather n
+    → loads editor (worldOf r hold text rows nodes) bytes u q n ≡ settles editor (judge editor (r .progress .«hold_len») bytes) (worldOf r hold text rows nodes) bytes u q
 unfolding settles
 gathered r bytes u n q hold text rows nodes j = rw j
 
@@ -208,146 +216,75 @@ module _ (r : Receiver) (piece hold text rows nodes : List ℕ) where
   abbrev here : World
   here = worldOf r hold text rows nodes
 
-  abbrev Refuses : Offered → Code → Type 0
-  Refuses o e = o ≡ record { receiver = r; used = 0; outcome = Declined e }
+  abbrev Refuses : Stepped → Code → Type 0
+  Refuses o e = o ≡ record { progress = r .progress; used = 0; outcome = Declined e }
 
-  pub wrong-hold : (o : Offered) (e : Code) → (length hold ≡ r .«hold_len» → ⊥) → e ≡ codeOf BadReceiver → Refuses o e → offerOf o hold text rows nodes ≡ offering editor here piece
+  pub wrong-hold : (o : Stepped) (e : Code) → (length hold ≡ r .progress .«hold_len» → ⊥) → e ≡ codeOf BadReceiver → Refuses o e → offerAt (r .table) o hold text rows nodes ≡ offering editor here piece
   unfolding offering
   wrong-hold o e n c d = rw (ne-eqb _ _ n, d, c)
 
-  pub stopped-before : (o : Offered) → length hold ≡ r .«hold_len» → (r .stop ≡ 0 → ⊥) → Refuses o (stopOf r) → offerOf o hold text rows nodes ≡ offering editor here piece
+  pub stopped-before : (o : Stepped) → length hold ≡ r .progress .«hold_len» → (r .progress .stop ≡ 0 → ⊥) → Refuses o (stopOf r) → offerAt (r .table) o hold text rows nodes ≡ offering editor here piece
   unfolding offering
   stopped-before o l n d = rw (eq-eqb _ _ l, ne-eqb _ _ n, d)
 
-  pub wrong-counts : (o : Offered) (e : Code) → length hold ≡ r .«hold_len» → r .stop ≡ 0 → impossible editor r ≡ true → e ≡ codeOf BadReceiver → Refuses o e
-      → offerOf o hold text rows nodes ≡ offering editor here piece
+  pub wrong-counts : (o : Stepped) (e : Code) → length hold ≡ r .progress .«hold_len» → r .progress .stop ≡ 0 → impossible editor (r .progress) ≡ true → e ≡ codeOf BadReceiver → Refuses o e
+      → offerAt (r .table) o hold text rows nodes ≡ offering editor here piece
   unfolding offering
   wrong-counts o e l s i c d = rw (eq-eqb _ _ l, eq-eqb _ _ s, i, d, c)
 
-  module _ (same : length hold ≡ r .«hold_len») (runs : r .stop ≡ 0) (possible : impossible editor r ≡ false) (nine : length (r .header) ≡ 9) where
+  module _ (same : length hold ≡ r .progress .«hold_len») (runs : r .progress .stop ≡ 0) (possible : impossible editor (r .progress) ≡ false) (nine : length (r .progress .header) ≡ 9) where
     goes-on : offering editor here piece ≡ takes editor here piece
     unfolding offering
     goes-on = rw (eq-eqb _ _ same, eq-eqb _ _ runs, possible)
 
     abbrev bytes : List ℕ
-    bytes = headerHeld r ++ take (9 - r .«header_len») piece
+    bytes = headerHeld (r .progress) ++ take (9 - r .progress .«header_len») piece
 
-    bytes-length : length bytes ≡ r .«header_len» + min (9 - r .«header_len») (length piece)
-    bytes-length = let l : r .«header_len» ≤ 9 = header-fits r nine possible in rw (length-append, length-take, length-take) (omega arith)
+    bytes-length : length bytes ≡ r .progress .«header_len» + min (9 - r .progress .«header_len») (length piece)
+    bytes-length = let l : r .progress .«header_len» ≤ 9 = header-fits (r .progress) nine possible in rw (length-append, length-take, length-take) (omega arith)
 
-    pub header-short : (r′ : Receiver) (header : List ℕ) → length piece < 9 - r .«header_len» → header ≡ pad 9 bytes
-        → r′ ≡ advanced r header (r .«header_len» + length piece) 0
-        → offerOf (record { receiver = r′; used = length piece; outcome = More }) hold text rows nodes ≡ offering editor here piece
+    pub header-short : (p′ : Progress) (header : List ℕ) → length piece < 9 - r .progress .«header_len» → header ≡ pad 9 bytes
+        → p′ ≡ progressOf (r .progress .«hold_len») header (r .progress .«header_len» + length piece) 0 (stopOf r)
+        → offerAt (r .table) (record { progress = p′; used = length piece; outcome = More }) hold text rows nodes ≡ offering editor here piece
     unfolding takes
-    header-short r′ header l h e =
-        let k : length bytes ≡ r .«header_len» + length piece = omega (arith, bytes-length) in
+    header-short p′ header l h e =
+        let k : length bytes ≡ r .progress .«header_len» + length piece = omega (arith, bytes-length) in
         let m : length bytes < 9 = omega arith in
         rw (goes-on, lt-ltb _ _ m, k, ← h, e)
 
-    header-whole : 9 - r .«header_len» ≤ length piece → pad 9 bytes ≡ bytes
+    header-whole : 9 - r .progress .«header_len» ≤ length piece → pad 9 bytes ≡ bytes
     unfolding pad
     header-whole l =
-        let k : 9 - length bytes ≡ 0 = omega (arith, bytes-length, header-fits r nine possible) in
+        let k : 9 - length bytes ≡ 0 = omega (arith, bytes-length, header-fits (r .progress) nine possible) in
         rw k (append-nil bytes)
 
-    pub header-there : (header : List ℕ) → 9 - r .«header_len» ≤ length piece → header ≡ pad 9 bytes
-        → settles editor (judge editor (r .«hold_len») header) here header (9 - r .«header_len») (drop (9 - r .«header_len») piece) ≡ offering editor here piece
+    pub header-there : (header : List ℕ) → 9 - r .progress .«header_len» ≤ length piece → header ≡ pad 9 bytes
+        → settles editor (judge editor (r .progress .«hold_len») header) here header (9 - r .progress .«header_len») (drop (9 - r .progress .«header_len») piece) ≡ offering editor here piece
     unfolding takes
     header-there header l h =
-        let k : 9 ≤ length bytes = omega (arith, bytes-length, header-fits r nine possible) in
+        let k : 9 ≤ length bytes = omega (arith, bytes-length, header-fits (r .progress) nine possible) in
         rw (goes-on, le-ltb _ _ k, h, header-whole l)
 
     -- the payload held is no longer than the frame
-    room-nine : (n : ℕ) → 9 ≤ r .«header_len» → judge editor (r .«hold_len») (pad 9 bytes) ≡ gather n → r .«payload_len» ≤ n
+    room-nine : (n : ℕ) → 9 ≤ r .progress .«header_len» → judge editor (r .progress .«hold_len») (pad 9 bytes) ≡ gather n → r .progress .«payload_len» ≤ n
     room-nine n l j =
-        let m : r .«header_len» ≤ 9 = header-fits r nine possible in
-        let k : 9 - r .«header_len» ≡ 0 = omega arith in
-        let t : take (r .«header_len») (r .header) ≡ r .header = take-all (r .«header_len») (r .header) (omega arith) in
-        let b : pad 9 bytes ≡ r .header = header-whole (omega arith) ∙ rw (k, t) (append-nil (r .header)) in
-        let f : leb n (r .«payload_len») ≡ false = sym (impossible-nine r nine (gather n) m l (rw b at j)) ∙ possible in
-        let q : r .«payload_len» < n = leb-false _ _ f in
+        let m : r .progress .«header_len» ≤ 9 = header-fits (r .progress) nine possible in
+        let k : 9 - r .progress .«header_len» ≡ 0 = omega arith in
+        let t : take (r .progress .«header_len») (r .progress .header) ≡ r .progress .header = take-all (r .progress .«header_len») (r .progress .header) (omega arith) in
+        let b : pad 9 bytes ≡ r .progress .header = header-whole (omega arith) ∙ rw (k, t) (append-nil (r .progress .header)) in
+        let f : leb n (r .progress .«payload_len») ≡ false = sym (impossible-nine (r .progress) nine (gather n) m l (rw b at j)) ∙ possible in
+        let q : r .progress .«payload_len» < n = leb-false _ _ f in
         omega arith
 
-    room-before : r .«header_len» < 9 → r .«payload_len» ≡ 0
+    room-before : r .progress .«header_len» < 9 → r .progress .«payload_len» ≡ 0
     unfolding impossible
     room-before l =
-        let f : ltb 0 (r .«payload_len») ≡ false = rw (le-ltb _ _ (header-fits r nine possible), lt-ltb _ _ l) at possible in
-        omega (arith, ltb-false 0 (r .«payload_len») f)
+        let f : ltb 0 (r .progress .«payload_len») ≡ false = rw (le-ltb _ _ (header-fits (r .progress) nine possible), lt-ltb _ _ l) at possible in
+        omega (arith, ltb-false 0 (r .progress .«payload_len») f)
 
-    pub room : (header : List ℕ) → header ≡ pad 9 bytes → (n : ℕ) → judge editor (r .«hold_len») header ≡ gather n → r .«payload_len» ≤ n
-    room header h n j = by-count (ltb (r .«header_len») 9) refl
+    pub room : (header : List ℕ) → header ≡ pad 9 bytes → (n : ℕ) → judge editor (r .progress .«hold_len») header ≡ gather n → r .progress .«payload_len» ≤ n
+    room header h n j = by-count (ltb (r .progress .«header_len») 9) refl
       where
-        by-count : (b : Bool) → ltb (r .«header_len») 9 ≡ b → r .«payload_len» ≤ n
+        by-count : (b : Bool) → ltb (r .progress .«header_len») 9 ≡ b → r .progress .«payload_len» ≤ n
         by-count true e = omega (arith, room-before (ltb-true _ _ e))
         by-count false e = room-nine n (ltb-false _ _ e) (rw h at j)
-
--- ---- a piece that only lengthens a payload
-
-picked : (b : Bool) (y : ℕ) → (pick b y 0 ≡ 0 → ⊥) → b ≡ true
-picked true y h = refl
-picked false y h = absurd (h refl)
-
--- the frame still lacks some of its n bytes
-lacking : (v : Verdict) (have len : ℕ) → (heldAfter v have len ≡ 0 → ⊥) → (n : ℕ) × (v ≡ gather n) × (have + len < n) × (heldAfter v have len ≡ have + len)
-lacking (refuse e) have len h = absurd (h refl)
-lacking (gather n) have len h =
-    let t : ltb (have + len) n ≡ true = picked (ltb (have + len) n) (have + len) h in
-    (n, refl, ltb-true (have + len) n t, rw t)
-
-module _ (r : Receiver) (piece hold text rows nodes : List ℕ) where
-  abbrev After : ℕ
-  After = heldAfter (judge editor (r .«hold_len») (r .header)) (r .«payload_len») (length piece)
-
-  -- what the tests found
-  abbrev Passed : ℕ → Type 0
-  Passed x = (length hold ≡ r .«hold_len») × (r .stop ≡ 0) × (r .«header_len» ≡ 9) × (x ≡ After)
-
-  passed : (x : ℕ) → x ≡ lengthens editor r (length hold) (length piece) → (x ≡ 0 → ⊥) → Passed x
-  unfolding lengthens
-  passed x e z =
-      let f : lengthens editor r (length hold) (length piece) ≡ 0 → ⊥ = λ k. z (e ∙ k) in
-      let a : eqb (length hold) (r .«hold_len») ≡ true = picked (eqb (length hold) (r .«hold_len»)) (pick (eqb (r .stop) 0) (pick (eqb (r .«header_len») 9) After 0) 0) f in
-      let b : eqb (r .stop) 0 ≡ true = picked (eqb (r .stop) 0) (pick (eqb (r .«header_len») 9) After 0) (λ k. f (rw a k)) in
-      let c : eqb (r .«header_len») 9 ≡ true = picked (eqb (r .«header_len») 9) After (λ k. f (rw (a, b) k)) in
-      (eqb-true _ _ a, eqb-true _ _ b, eqb-true _ _ c, e ∙ rw (a, b, c))
-
-  module _ (nine : length (r .header) ≡ 9) (same : length hold ≡ r .«hold_len») (runs : r .stop ≡ 0) (whole : r .«header_len» ≡ 9)
-      (n : ℕ) (judged : judge editor (r .«hold_len») (r .header) ≡ gather n) (short : r .«payload_len» + length piece < n) where
-    counts-hold : impossible editor r ≡ false
-    counts-hold = impossible-nine r nine (gather n) (omega arith) (omega arith) judged ∙ lt-leb n (r .«payload_len») (omega arith)
-
-    header-is : r .header ≡ pad 9 (headerHeld r ++ take (9 - r .«header_len») piece)
-    unfolding pad
-    header-is =
-        let k : 9 - r .«header_len» ≡ 0 = omega arith in
-        let t : take (r .«header_len») (r .header) ≡ r .header = take-all (r .«header_len») (r .header) (omega arith) in
-        let z : 9 - length (r .header) ≡ 0 = omega arith in
-        rw (k, t, append-nil, z, append-nil)
-
-    stored-is : part piece 0 (length piece) ≡ part piece (9 - r .«header_len») (n - r .«payload_len»)
-    unfolding part
-    stored-is =
-        let k : 9 - r .«header_len» ≡ 0 = omega arith in
-        rw (k, take-all (length piece) piece (omega arith), take-all (n - r .«payload_len») piece (omega arith))
-
-    grown : (hold′ : List ℕ) → n ≤ length hold → hold′ ≡ sets hold (r .«payload_len») (part piece 0 (length piece))
-        → offerOf (record { receiver = advanced r (r .header) (r .«header_len») (r .«payload_len» + length piece); used = length piece; outcome = More }) hold′ text rows nodes
-        ≡ offering editor (worldOf r hold text rows nodes) piece
-    grown hold′ fits stored =
-        let u : 9 - r .«header_len» ≡ 0 = omega arith in
-        let m : length piece - (9 - r .«header_len») ≡ length piece = omega arith in
-        loaded-short r (r .header) (9 - r .«header_len») n piece hold hold′ text rows nodes (omega arith) fits (omega arith) (stored ∙ ap (sets hold (r .«payload_len»)) stored-is)
-        (advanced r (r .header) (r .«header_len») (r .«payload_len» + length piece)) (omega arith) (rw (m, whole))
-        ∙ gathered r (r .header) (9 - r .«header_len») n (drop (9 - r .«header_len») piece) hold text rows nodes judged
-        ∙ header-there r piece hold text rows nodes same runs counts-hold nine (r .header) (omega arith) header-is
-
-  -- one count of the receiver is all that such an offer alters
-  pub offer-lengthened : (x : ℕ) (hold′ : List ℕ) → length (r .header) ≡ 9 → x ≡ lengthens editor r (length hold) (length piece) → (x ≡ 0 → ⊥)
-      → hold′ ≡ sets hold (r .«payload_len») (part piece 0 (length piece))
-      → offerOf (record { receiver = advanced r (r .header) (r .«header_len») x; used = length piece; outcome = More }) hold′ text rows nodes
-      ≡ offering editor (worldOf r hold text rows nodes) piece
-  offer-lengthened x hold′ nine e z stored =
-      let (same, runs, whole, is) = passed x e z in
-      let (n, judged, short, sum) = lacking (judge editor (r .«hold_len») (r .header)) (r .«payload_len») (length piece) (λ k. z (is ∙ k)) in
-      let s : x ≡ r .«payload_len» + length piece = is ∙ sum in
-      rw s (grown nine same runs whole n judged short hold′ (omega (arith, gather-fits editor (r .«hold_len») (r .header) n judged)) stored)

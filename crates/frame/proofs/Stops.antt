@@ -25,8 +25,8 @@ plus-zero r = rw zero-add
 
 -- a stop stands, and the hold has the opening's length
 pub record Halted (w : World) : Type 0 where
-  pub room : length (w .hold) ≡ w .receiver .«hold_len»
-  pub stop : w .receiver .stop ≢ 0
+  pub room : length (w .hold) ≡ w .receiver .progress .«hold_len»
+  pub stop : w .receiver .progress .stop ≢ 0
 
 module _ (l : Limits) (w : World) (h : Halted w) where
   pub offer-stopped : (p : List ℕ) → offering l w p ≡ declined (stopOf (w .receiver)) w
@@ -51,23 +51,23 @@ module _ (l : Limits) (w : World) (p : List ℕ) where
   abbrev Left : Offer → Type 0
   Left o = Leaves (o .outcome) (o .world)
 
-  at-settles : (v : Verdict) (hd : List ℕ) (u : ℕ) (q : List ℕ) → length (w .hold) ≡ w .receiver .«hold_len» → judge l (w .receiver .«hold_len») hd ≡ v → Left (settles l v w hd u q)
+  at-settles : (v : Verdict) (hd : List ℕ) (u : ℕ) (q : List ℕ) → length (w .hold) ≡ w .receiver .progress .«hold_len» → judge l (w .receiver .progress .«hold_len») hd ≡ v → Left (settles l v w hd u q)
   unfolding settles loads handed
-  at-settles (refuse e) hd u q s j = record { room = length-replicate _ 0 ∙ s; stop = omega (arith, stop-number l (w .receiver .«hold_len») hd e j) }
-  at-settles (gather n) hd u q s j = pick-cases Left (ltb (length (payloadHeld w ++ take (n - w .receiver .«payload_len») q)) n) (λ _. refl) (λ _. refl)
+  at-settles (refuse e) hd u q s j = record { room = length-replicate _ 0 ∙ s; stop = omega (arith, stop-number l (w .receiver .progress .«hold_len») hd e j) }
+  at-settles (gather n) hd u q s j = pick-cases Left (ltb (length (payloadHeld w ++ take (n - w .receiver .progress .«payload_len») q)) n) (λ _. refl) (λ _. refl)
 
-  at-takes : length (w .hold) ≡ w .receiver .«hold_len» → Left (takes l w p)
+  at-takes : length (w .hold) ≡ w .receiver .progress .«hold_len» → Left (takes l w p)
   unfolding takes
   at-takes s =
-      let hd : List ℕ = headerHeld (w .receiver) ++ take (9 - w .receiver .«header_len») p in
-      pick-cases Left (ltb (length hd) 9) (λ _. refl) (λ _. at-settles (judge l (w .receiver .«hold_len») hd) hd _ _ s refl)
+      let hd : List ℕ = headerHeld (w .receiver .progress) ++ take (9 - w .receiver .progress .«header_len») p in
+      pick-cases Left (ltb (length hd) 9) (λ _. refl) (λ _. at-settles (judge l (w .receiver .progress .«hold_len») hd) hd _ _ s refl)
 
   pub offer-leaves : Left (offering l w p)
   unfolding offering
   offer-leaves =
-      pick-cases Left (eqb (length (w .hold)) (w .receiver .«hold_len»))
-      (λ s. pick-cases Left (eqb (w .receiver .stop) 0)
-      (λ _. pick-cases Left (impossible l (w .receiver)) (λ _. refl) (λ _. at-takes (eqb-true _ _ s)))
+      pick-cases Left (eqb (length (w .hold)) (w .receiver .progress .«hold_len»))
+      (λ s. pick-cases Left (eqb (w .receiver .progress .stop) 0)
+      (λ _. pick-cases Left (impossible l (w .receiver .progress)) (λ _. refl) (λ _. at-takes (eqb-true _ _ s)))
       (λ _. refl))
       (λ _. refl)
 

@@ -9,12 +9,12 @@ use Rattle.frame.specs.Offering.{Offer, stopOf, setupOf, headerHeld, pay
 -- the same kind table, hold length, counts, stop and lent memory, holds of the same length, and the same bytes held
 pub record Agree (w w′ : World) : Type 0 where
   pub setup : setupOf (w .receiver) ≡ setupOf (w′ .receiver)
-  pub headerLen : w .receiver .«header_len» ≡ w′ .receiver .«header_len»
-  pub payloadLen : w .receiver .«payload_len» ≡ w′ .receiver .«payload_len»
+  pub headerLen : w .receiver .progress .«header_len» ≡ w′ .receiver .progress .«header_len»
+  pub payloadLen : w .receiver .progress .«payload_len» ≡ w′ .receiver .progress .«payload_len»
   pub stop : stopOf (w .receiver) ≡ stopOf (w′ .receiver)
   pub lent : w .lent ≡ w′ .lent
   pub room : length (w .hold) ≡ length (w′ .hold)
-  pub header : headerHeld (w .receiver) ≡ headerHeld (w′ .receiver)
+  pub header : headerHeld (w .receiver .progress) ≡ headerHeld (w′ .receiver .progress)
   pub payload : payloadHeld w ≡ payloadHeld w′
 
 -- the same answer and bytes used, and worlds that agree again

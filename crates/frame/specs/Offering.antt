@@ -1,26 +1,25 @@
 -- Opening a receiver, and offering it a piece: what both do for every receiver and all lent memory.
 use mathlib.Core.Bool.{Bool, true}
-use mathlib.Core.Path.{_≡_, refl}
 use mathlib.Core.List.{List, [], _∷_, _++_}
 use Prim.Native.Nat.{ℕ, _+_, _-_}
 use lib.Dec.{eqb, ltb, leb}
 use lib.ListN.{length, take, drop, replicate}
 use Rattle.varint.specs.Choice.{pick}
-use Rattle.varint.specs.Fixed.{le}
 use Rattle.varint.specs.Refusals.{codeOf}
-use Rattle.varint.specs.Stores.{part}
 use Rattle.varint.specs.declared.error.Code.{Code}
 use Rattle.varint.specs.declared.error.Refusal.the-variants.{BadReceiver, BadKindTable}
 use Rattle.protocol.specs.Decoding.{Left}
+use Rattle.frame.specs.declared.receiver.Progress.{Progress}
 use Rattle.frame.specs.declared.receiver.Receiver.{Receiver}
 use Rattle.frame.specs.declared.receiver.Opening.{Opening}
 use Rattle.frame.specs.declared.receiver.Opening.the-variants as O
 use Rattle.frame.specs.declared.receiver.Offered.{Offered}
+use Rattle.frame.specs.declared.receiver.Stepped.{Stepped}
 use Rattle.frame.specs.declared.receiver.Outcome.{Outcome}
 use Rattle.frame.specs.declared.receiver.Outcome.the-variants.{More, Handed, Stopped, Refused}
 use Rattle.frame.specs.declared.FrameHeader.{FrameHeader}
-use Rattle.frame.specs.Frames.{kindOf, lengthOf, headerOf}
-use Rattle.frame.specs.Worlds.{Limits, Setup, World, editor, receiverOf, running, pad}
+use Rattle.frame.specs.Frames.{kindOf, headerOf}
+use Rattle.frame.specs.Worlds.{Limits, Setup, World, receiverOf, running, pad}
 use Rattle.frame.specs.Reading.{Verdict, refuse, gather, judge, decoded, lentBy}
 
 -- ---- opening
@@ -54,21 +53,21 @@ abbrev pub declined : Code → World → Offer
 declined e w = record { outcome = Refused e; used = 0; world = w }
 
 abbrev pub stopOf : Receiver → Code
-stopOf r = record { number = r .stop; a = r .«stop_a»; b = r .«stop_b» }
+stopOf r = record { number = r .progress .stop; a = r .progress .«stop_a»; b = r .progress .«stop_b» }
 
 abbrev pub setupOf : Receiver → Setup
-setupOf r = record { table = r .table; room = r .«hold_len» }
+setupOf r = record { table = r .table; room = r .progress .«hold_len» }
 
 -- the receiver with another header and other counts
 abbrev pub advanced : Receiver → (header : List ℕ) → (headerLen payloadLen : ℕ) → Receiver
 advanced r hd g n = receiverOf (setupOf r) hd g n (stopOf r)
 
 -- the header bytes and the payload bytes that are held: bytes past their counts count as absent
-abbrev pub headerHeld : Receiver → List ℕ
-headerHeld r = take (r .«header_len») (r .header)
+abbrev pub headerHeld : Progress → List ℕ
+headerHeld p = take (p .«header_len») (p .header)
 
 abbrev pub payloadHeld : World → List ℕ
-payloadHeld w = take (w .receiver .«payload_len») (w .hold)
+payloadHeld w = take (w .receiver .progress .«payload_len») (w .hold)
 
 -- "at nine, a length over the maximum or the hold, or payload held not below that length"
 abbrev pub overfull : Verdict → (payloadLen : ℕ) → Bool
@@ -76,10 +75,10 @@ overfull (refuse e) have = true
 overfull (gather n) have = leb n have
 
 -- "17 if the counts are impossible (over 9 header bytes; payload held before the ninth; ..)"
-unfoldable pub impossible : Limits → Receiver → Bool
-impossible l r =
-    pick (ltb 9 (r .«header_len»)) true
-    (pick (ltb (r .«header_len») 9) (ltb 0 (r .«payload_len»)) (overfull (judge l (r .«hold_len») (headerHeld r)) (r .«payload_len»)))
+unfoldable pub impossible : Limits → Progress → Bool
+impossible l p =
+    pick (ltb 9 (p .«header_len»)) true
+    (pick (ltb (p .«header_len») 9) (ltb 0 (p .«payload_len»)) (overfull (judge l (p .«hold_len») (headerHeld p)) (p .«payload_len»)))
 
 -- The frame is whole: "header and hold are zero again".
 unfoldable pub handed : World → FrameHeader → (used : ℕ) → Left → Offer
@@ -93,7 +92,7 @@ module _ (l : Limits) where
   -- nine header bytes hd are there, u bytes of the piece went into them, q is left of it, and n bytes of payload are wanted
   unfoldable pub loads : (w : World) → (hd : List ℕ) → (u : ℕ) → (q : List ℕ) → (n : ℕ) → Offer
   loads w hd u q n =
-      let have : ℕ = w .receiver .«payload_len» in
+      let have : ℕ = w .receiver .progress .«payload_len» in
       let payload : List ℕ = payloadHeld w ++ take (n - have) q in
       pick (ltb (length payload) n)
       (record {
@@ -115,51 +114,20 @@ module _ (l : Limits) where
   unfoldable pub takes : World → List ℕ → Offer
   takes w p =
       let r : Receiver = w .receiver in
-      let lacks : ℕ = 9 - r .«header_len» in
-      let hd : List ℕ = headerHeld r ++ take lacks p in
+      let lacks : ℕ = 9 - r .progress .«header_len» in
+      let hd : List ℕ = headerHeld (r .progress) ++ take lacks p in
       pick (ltb (length hd) 9)
       (record { outcome = More; used = length p; world = record { receiver = advanced r (pad 9 hd) (length hd) 0; hold = w .hold; lent = w .lent } })
-      (settles (judge l (r .«hold_len») hd) w hd lacks (drop lacks p))
+      (settles (judge l (r .progress .«hold_len») hd) w hd lacks (drop lacks p))
 
   -- "17 if the hold's length isn't that of the opening; the stored refusal if stopped; 17 if the counts are impossible .. Then as the reading says."
   unfoldable pub offering : World → List ℕ → Offer
   offering w p =
-      pick (eqb (length (w .hold)) (w .receiver .«hold_len»))
-      (pick (eqb (w .receiver .stop) 0)
-      (pick (impossible l (w .receiver)) (declined (codeOf BadReceiver) w) (takes w p))
+      pick (eqb (length (w .hold)) (w .receiver .progress .«hold_len»))
+      (pick (eqb (w .receiver .progress .stop) 0)
+      (pick (impossible l (w .receiver .progress)) (declined (codeOf BadReceiver) w) (takes w p))
       (declined (stopOf (w .receiver)) w))
       (declined (codeOf BadReceiver) w)
-
--- ---- a piece that only lengthens a payload
-
--- the payload bytes that are held after `len` more, where the frame still lacks some; else 0
-abbrev pub heldAfter : Verdict → (payloadLen len : ℕ) → ℕ
-heldAfter (refuse e) have len = 0
-heldAfter (gather n) have len = pick (ltb (have + len) n) (have + len) 0
-
--- The same of a receiver that is offered a piece of `len` bytes over a hold of `room`: 0 where the piece starts or ends a frame, or is refused.
-unfoldable pub lengthens : Limits → Receiver → (room len : ℕ) → ℕ
-lengthens l r room len =
-    pick (eqb room (r .«hold_len»))
-    (pick (eqb (r .stop) 0) (pick (eqb (r .«header_len») 9) (heldAfter (judge l (r .«hold_len») (r .header)) (r .«payload_len») len) 0) 0)
-    0
-
--- the frame of document 01's lister, its header and one of three payload bytes held: a second byte lengthens it, two more end it, and a hold of another
--- length is refused
-abbrev gathering : Receiver
-gathering = receiverOf (record { table = []; room = 4 }) (0x05 ∷ 0x01 ∷ 0 ∷ 0 ∷ 0 ∷ 0x03 ∷ 0 ∷ 0 ∷ 0 ∷ []) 9 1 running
-
-example-lengthens : lengthens editor gathering 4 1 ≡ 2
-unfolding lengthens judge lengthOf le part
-example-lengthens = refl
-
-example-ends : lengthens editor gathering 4 2 ≡ 0
-unfolding lengthens judge lengthOf le part
-example-ends = refl
-
-example-declined : lengthens editor gathering 5 1 ≡ 0
-unfolding lengthens judge lengthOf le part
-example-declined = refl
 
 -- ---- the memory of a call, as the definitions have it
 
@@ -168,3 +136,10 @@ worldOf r hold text rows nodes = record { receiver = r; hold = hold; lent = reco
 
 abbrev pub offerOf : Offered → (hold text rows nodes : List ℕ) → Offer
 offerOf o hold text rows nodes = record { outcome = o .outcome; used = o .used; world = worldOf (o .receiver) hold text rows nodes }
+
+-- the same of a kind table and the rest of a receiver, apart
+abbrev pub receiverAt : (table : List ℕ) → Progress → Receiver
+receiverAt table p = record { table = table; progress = p }
+
+abbrev pub offerAt : (table : List ℕ) → Stepped → (hold text rows nodes : List ℕ) → Offer
+offerAt table o hold text rows nodes = record { outcome = o .outcome; used = o .used; world = worldOf (receiverAt table (o .progress)) hold text rows nodes }

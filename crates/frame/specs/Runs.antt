@@ -47,8 +47,8 @@ EveryCut = (before : Receiver) (table hold : List ℕ) (lent : Lent) (pieces : L
 
 -- "nine header bytes with their count (zeros after)", "hold zero after": header and hold are what is held, and zeros
 pub record ZeroAfter (w : World) : Type 0 where
-  pub header : w .receiver .header ≡ pad 9 (headerHeld (w .receiver))
-  pub hold : w .hold ≡ pad (w .receiver .«hold_len») (payloadHeld w)
+  pub header : w .receiver .progress .header ≡ pad 9 (headerHeld (w .receiver .progress))
+  pub hold : w .hold ≡ pad (w .receiver .progress .«hold_len») (payloadHeld w)
 
 -- so it is after every list of pieces
 abbrev pub EveryRest : Type 0

@@ -4,6 +4,7 @@ use Prim.Native.Nat.{ℕ, _-_}
 use mathlib.Core.List.{_++_}
 use lib.ListN.{length, replicate}
 use Rattle.varint.specs.declared.error.Code.{Code}
+use Rattle.frame.specs.declared.receiver.Progress.{Progress}
 use Rattle.frame.specs.declared.receiver.Receiver.{Receiver}
 
 -- the longest payload and the depth of descriptors that are accepted
@@ -32,17 +33,11 @@ pub record World : Type 0 where
   pub lent : Lent
 
 -- "The receiver keeps the kind table of 256 entries, nine header bytes with their count (zeros after), a payload count, the hold's length and a stop."
+abbrev pub progressOf : (room : ℕ) → (header : List ℕ) → (headerLen payloadLen : ℕ) → Code → Progress
+progressOf room hd g n e = record { header = hd; «header_len» = g; «payload_len» = n; «hold_len» = room; stop = e .number; «stop_a» = e .a; «stop_b» = e .b }
+
 abbrev pub receiverOf : Setup → (header : List ℕ) → (headerLen payloadLen : ℕ) → Code → Receiver
-receiverOf c hd g n e = record {
-  table = c .table;
-  header = hd;
-  «header_len» = g;
-  «payload_len» = n;
-  «hold_len» = c .room;
-  stop = e .number;
-  «stop_a» = e .a;
-  «stop_b» = e .b;
-}
+receiverOf c hd g n e = record { table = c .table; progress = progressOf (c .room) hd g n e }
 
 -- no stop
 abbrev pub running : Code

@@ -1,13 +1,11 @@
 // The receiver: takes a run of bytes in pieces, as the network cut them, and hands out each frame with its message.
 ghost use mathlib.Core.Path.{_≡_};
 ghost use mathlib.Core.List.{_++_};
-ghost use Prim.Native.Nat.{ℕ, _+_, _-_, _≤_, _<_};
-ghost use lib.Dec.{ltb};
+ghost use Prim.Native.Nat.{ℕ, _-_, _≤_};
 ghost use lib.ListN.{length, take, drop, getD, replicate};
-ghost use Rattle.varint.specs.Choice.{pick};
-ghost use Rattle.frame.specs.Worlds.{editor, receiverOf, running, pad};
+ghost use Rattle.frame.specs.Worlds.{editor, progressOf, receiverOf, running, pad};
 ghost use Rattle.frame.specs.Reading.{gather, decoded, judge as judging};
-ghost use Rattle.frame.specs.Offering.{opens, advanced, headerHeld, impossible as impossibleFor, setupOf, handed, loads, settles, offering, lengthens, worldOf, offerOf};
+ghost use Rattle.frame.specs.Offering.{opens, impossible as impossibleFor, setupOf, stopOf, handed, loads, settles, offering, worldOf, offerOf, receiverAt, offerAt};
 ghost use Rattle.frame.specs.Frames.{headerOf};
 ghost use Rattle.frame.specs.Judging.{Judges};
 ghost use Rattle.frame.specs.declared.receiver.Outcome.the-variants.{Refused as Declined};
@@ -24,11 +22,9 @@ use varint::error::code_of;
 use varint::store::clear_bytes;
 use varint::store::copy_bytes;
 
-// Plain numbers, so that a host can lend it: a stop is the refusal's number and details, and 0 while the receiver runs.
+// What an offer advances. A stop is the refusal's number and details, and 0 while the receiver runs.
 #[repr(C)]
-pub struct Receiver {
-    // The message that each kind byte names, 1 to 12; any other number: an opaque payload.
-    pub table: [u8; 256],
+pub struct Progress {
     pub header: [u8; Frame::HEADER_LEN],
     pub header_len: usize,
     pub payload_len: usize,
@@ -36,6 +32,14 @@ pub struct Receiver {
     pub stop: u64,
     pub stop_a: u64,
     pub stop_b: u64,
+}
+
+// Plain numbers, so that a host can lend it.
+#[repr(C)]
+pub struct Receiver {
+    // The message that each kind byte names, 1 to 12; any other number: an opaque payload. No offer alters it.
+    pub table: [u8; 256],
+    pub progress: Progress,
 }
 
 pub enum Opening {
@@ -66,10 +70,32 @@ pub struct Offered {
     pub outcome: Outcome,
 }
 
+// The same but for the kind table, which stays where it is.
+pub struct Stepped {
+    pub progress: Progress,
+    pub used: usize,
+    pub outcome: Outcome,
+}
+
 // What nine header bytes say: the run stops, or so much payload is to be gathered.
 enum Verdict {
     Refuse(Refusal),
     Gather(FrameHeader),
+}
+
+// Nothing is held yet.
+fn start(hold_len: usize) -> Progress
+    ensures { λ r. ⌜ r ≡ progressOf «hold_len» (replicate 9 0) 0 0 running ⌝ }
+{
+    Progress {
+        header: [0u8; 9],
+        header_len: 0,
+        payload_len: 0,
+        hold_len,
+        stop: 0,
+        stop_a: 0,
+        stop_b: 0,
+    }
 }
 
 // A receiver before its first opening.
@@ -78,13 +104,7 @@ pub fn unopened() -> Receiver
 {
     Receiver {
         table: [0u8; 256],
-        header: [0u8; 9],
-        header_len: 0,
-        payload_len: 0,
-        hold_len: 0,
-        stop: 0,
-        stop_a: 0,
-        stop_b: 0,
+        progress: start(0),
     }
 }
 
@@ -112,13 +132,7 @@ pub fn open(receiver: Receiver, table: &[u8], hold: &mut [u8]) -> Opened
     Opened {
         receiver: Receiver {
             table: entries,
-            header: [0u8; 9],
-            header_len: 0,
-            payload_len: 0,
-            hold_len: hold.len(),
-            stop: 0,
-            stop_a: 0,
-            stop_b: 0,
+            progress: start(hold.len()),
         },
         opening: Opening::Accepted,
     }
@@ -142,83 +156,45 @@ fn judge(header: [u8; 9], room: usize) -> Verdict
 }
 
 // Counts that no offer leaves.
-fn impossible(receiver: Receiver) -> bool
-    ensures { λ r. ⌜ r ≡ impossibleFor editor receiver ⌝ }
+fn impossible(progress: Progress) -> bool
+    ensures { λ r. ⌜ r ≡ impossibleFor editor progress ⌝ }
 {
-    if Frame::HEADER_LEN < receiver.header_len {
+    if Frame::HEADER_LEN < progress.header_len {
         return true;
     }
-    if receiver.header_len < Frame::HEADER_LEN {
-        return 0 < receiver.payload_len;
+    if progress.header_len < Frame::HEADER_LEN {
+        return 0 < progress.payload_len;
     }
-    let header = receiver.header;
-    match judge(header, receiver.hold_len) {
+    let header = progress.header;
+    match judge(header, progress.hold_len) {
         Verdict::Refuse(_) => true,
-        Verdict::Gather(h) => h.length as usize <= receiver.payload_len,
+        Verdict::Gather(h) => h.length as usize <= progress.payload_len,
     }
 }
 
-// Two lengths together where they are below `end`, else 0.
-fn sum_below(have: usize, len: usize, end: usize) -> usize
-    ensures { λ r. ⌜ r ≡ pick (ltb (have + len) end) (have + len) 0 ⌝ }
+// Another header and other counts.
+fn advance(progress: Progress, header: [u8; 9], header_len: usize, payload_len: usize) -> Progress
+    ensures { λ r. ⌜ r ≡ progressOf (progress .«hold_len») header «header_len» «payload_len» (record { number = progress .stop; a = progress .«stop_a»; b = progress .«stop_b» }) ⌝ }
 {
-    if end <= have {
-        return 0;
-    }
-    if end - have <= len {
-        return 0;
-    }
-    have + len
-}
-
-// The payload bytes that are held once a piece of `len` bytes is, where it neither starts nor ends a frame; else 0. A host's call tests
-// this first: such a piece alters one count of the receiver, which then need not be carried in and out by value.
-pub fn lengthened(receiver: Receiver, room: usize, len: usize) -> usize
-    ensures { λ r. ⌜ r ≡ lengthens editor receiver room len ⌝ }
-{
-    if room != receiver.hold_len {
-        return 0;
-    }
-    if receiver.stop != 0 {
-        return 0;
-    }
-    if receiver.header_len != Frame::HEADER_LEN {
-        return 0;
-    }
-    let header = receiver.header;
-    match judge(header, receiver.hold_len) {
-        Verdict::Refuse(_) => 0,
-        Verdict::Gather(h) => sum_below(receiver.payload_len, len, h.length as usize),
-    }
-}
-
-// The receiver with another header and other counts.
-fn advance(receiver: Receiver, header: [u8; 9], header_len: usize, payload_len: usize) -> Receiver
-    ensures { λ r. ⌜ r ≡ advanced receiver header «header_len» «payload_len» ⌝ }
-{
-    let table = receiver.table;
-    Receiver {
-        table,
+    Progress {
         header,
         header_len,
         payload_len,
-        hold_len: receiver.hold_len,
-        stop: receiver.stop,
-        stop_a: receiver.stop_a,
-        stop_b: receiver.stop_b,
+        hold_len: progress.hold_len,
+        stop: progress.stop,
+        stop_a: progress.stop_a,
+        stop_b: progress.stop_b,
     }
 }
 
-fn halt(receiver: Receiver, header: [u8; 9], stop: Code) -> Receiver
-    ensures { λ r. ⌜ r ≡ receiverOf (setupOf receiver) header 9 0 stop ⌝ }
+fn halt(progress: Progress, header: [u8; 9], stop: Code) -> Progress
+    ensures { λ r. ⌜ r ≡ progressOf (progress .«hold_len») header 9 0 stop ⌝ }
 {
-    let table = receiver.table;
-    Receiver {
-        table,
+    Progress {
         header,
         header_len: Frame::HEADER_LEN,
         payload_len: 0,
-        hold_len: receiver.hold_len,
+        hold_len: progress.hold_len,
         stop: stop.number,
         stop_a: stop.a,
         stop_b: stop.b,
@@ -226,8 +202,8 @@ fn halt(receiver: Receiver, header: [u8; 9], stop: Code) -> Receiver
 }
 
 // The message that a kind names.
-pub fn entry_of(table: [u8; 256], kind: u8) -> u8
-    ensures { λ r. ⌜ r ≡ getD table kind 0 ⌝ }
+pub fn entry_of(table: &[u8; 256], kind: u8) -> u8
+    ensures { λ r. ⌜ r ≡ getD (now (table .entry)) kind 0 ⌝ }
 {
     table[kind as usize]
 }
@@ -237,6 +213,9 @@ fn fill_header(held: [u8; 9], at: usize, piece: &[u8]) -> [u8; 9]
     requires { ⌜ at ≤ 9 ⌝ }
     ensures { λ r. ⌜ r ≡ pad 9 (take at held ++ take (9 - at) (now (piece .entry))) ⌝ }
 {
+    if at == Frame::HEADER_LEN {
+        return held;
+    }
     let mut header = held;
     clear_bytes(&mut header, at);
     copy_bytes(piece, 0, Frame::HEADER_LEN - at, &mut header, at);
@@ -245,23 +224,23 @@ fn fill_header(held: [u8; 9], at: usize, piece: &[u8]) -> [u8; 9]
 
 // The payload is whole in the hold: it is decoded, and the hold goes to zero.
 fn hand_out(
-    receiver: Receiver,
+    table: &[u8; 256],
+    progress: Progress,
     header: FrameHeader,
     used: usize,
     hold: &mut [u8],
     text: &mut [u8],
     rows: &mut [u64],
     nodes: &mut [u64],
-) -> Offered
+) -> Stepped
     requires { ⌜ header .length ≤ length (now hold) ⌝ }
-    ensures { λ r. ⌜ offerOf r (now (hold .exit)) (now (text .exit)) (now (rows .exit)) (now (nodes .exit)) ≡ handed (worldOf receiver (now (hold .entry)) (now (text .entry)) (now (rows .entry)) (now (nodes .entry))) header used (decoded editor (setupOf receiver) (header .kind) (take (header .length) (now (hold .entry))) (record { text = now (text .entry); rows = now (rows .entry); nodes = now (nodes .entry) })) ⌝ }
+    ensures { λ r. ⌜ offerAt (now (table .entry)) r (now (hold .exit)) (now (text .exit)) (now (rows .exit)) (now (nodes .exit)) ≡ handed (worldOf (receiverAt (now (table .entry)) progress) (now (hold .entry)) (now (text .entry)) (now (rows .entry)) (now (nodes .entry))) header used (decoded editor (setupOf (receiverAt (now (table .entry)) progress)) (header .kind) (take (header .length) (now (hold .entry))) (record { text = now (text .entry); rows = now (rows .entry); nodes = now (nodes .entry) })) ⌝ }
 {
-    let table = receiver.table;
     let entry = entry_of(table, header.kind);
     let answer = decode(entry, &hold[..header.length as usize], text, rows, nodes);
     clear_bytes(hold, 0); // no byte of this frame may show in the next
-    Offered {
-        receiver: advance(receiver, [0u8; 9], 0, 0),
+    Stepped {
+        progress: advance(progress, [0u8; 9], 0, 0),
         used,
         outcome: Outcome::Handed { header, answer },
     }
@@ -269,7 +248,8 @@ fn hand_out(
 
 // Nine header bytes are there, the last of them the piece's byte before `used`; the payload is gathered in the hold.
 fn load(
-    receiver: Receiver,
+    table: &[u8; 256],
+    progress: Progress,
     bytes: [u8; 9],
     header: FrameHeader,
     used: usize,
@@ -278,27 +258,37 @@ fn load(
     text: &mut [u8],
     rows: &mut [u64],
     nodes: &mut [u64],
-) -> Offered
-    requires { ⌜ (header ≡ headerOf bytes) × (receiver .«payload_len» ≤ header .length) × (header .length ≤ length (now hold)) × (used ≤ length (now piece)) ⌝ }
-    ensures { λ r. ⌜ offerOf r (now (hold .exit)) (now (text .exit)) (now (rows .exit)) (now (nodes .exit)) ≡ loads editor (worldOf receiver (now (hold .entry)) (now (text .entry)) (now (rows .entry)) (now (nodes .entry))) bytes used (drop used (now (piece .entry))) (header .length) ⌝ }
+) -> Stepped
+    requires { ⌜ (header ≡ headerOf bytes) × (progress .«payload_len» ≤ header .length) × (header .length ≤ length (now hold)) × (used ≤ length (now piece)) ⌝ }
+    ensures { λ r. ⌜ offerAt (now (table .entry)) r (now (hold .exit)) (now (text .exit)) (now (rows .exit)) (now (nodes .exit)) ≡ loads editor (worldOf (receiverAt (now (table .entry)) progress) (now (hold .entry)) (now (text .entry)) (now (rows .entry)) (now (nodes .entry))) bytes used (drop used (now (piece .entry))) (header .length) ⌝ }
 {
-    let have = receiver.payload_len;
+    let have = progress.payload_len;
     let wanted = header.length as usize - have;
     let left = piece.len() - used;
     copy_bytes(piece, used, wanted, hold, have);
     if left < wanted {
-        return Offered {
-            receiver: advance(receiver, bytes, Frame::HEADER_LEN, have + left),
+        return Stepped {
+            progress: advance(progress, bytes, Frame::HEADER_LEN, have + left),
             used: piece.len(),
             outcome: Outcome::More,
         };
     }
-    hand_out(receiver, header, used + wanted, hold, text, rows, nodes)
+    hand_out(
+        table,
+        progress,
+        header,
+        used + wanted,
+        hold,
+        text,
+        rows,
+        nodes,
+    )
 }
 
 // Nine header bytes are there: the run stops, or the payload is gathered.
 fn settle(
-    receiver: Receiver,
+    table: &[u8; 256],
+    progress: Progress,
     bytes: [u8; 9],
     used: usize,
     piece: &[u8],
@@ -306,22 +296,23 @@ fn settle(
     text: &mut [u8],
     rows: &mut [u64],
     nodes: &mut [u64],
-) -> Offered
-    requires { ⌜ ((n : ℕ) → judging editor (receiver .«hold_len») bytes ≡ gather n → receiver .«payload_len» ≤ n) × (length (now hold) ≡ receiver .«hold_len») × (used ≤ length (now piece)) ⌝ }
-    ensures { λ r. ⌜ offerOf r (now (hold .exit)) (now (text .exit)) (now (rows .exit)) (now (nodes .exit)) ≡ settles editor (judging editor (receiver .«hold_len») bytes) (worldOf receiver (now (hold .entry)) (now (text .entry)) (now (rows .entry)) (now (nodes .entry))) bytes used (drop used (now (piece .entry))) ⌝ }
+) -> Stepped
+    requires { ⌜ ((n : ℕ) → judging editor (progress .«hold_len») bytes ≡ gather n → progress .«payload_len» ≤ n) × (length (now hold) ≡ progress .«hold_len») × (used ≤ length (now piece)) ⌝ }
+    ensures { λ r. ⌜ offerAt (now (table .entry)) r (now (hold .exit)) (now (text .exit)) (now (rows .exit)) (now (nodes .exit)) ≡ settles editor (judging editor (progress .«hold_len») bytes) (worldOf (receiverAt (now (table .entry)) progress) (now (hold .entry)) (now (text .entry)) (now (rows .entry)) (now (nodes .entry))) bytes used (drop used (now (piece .entry))) ⌝ }
 {
-    match judge(bytes, receiver.hold_len) {
+    match judge(bytes, progress.hold_len) {
         Verdict::Refuse(e) => {
             let stop = code_of(e);
             clear_bytes(hold, 0);
-            Offered {
-                receiver: halt(receiver, bytes, stop),
+            Stepped {
+                progress: halt(progress, bytes, stop),
                 used,
                 outcome: Outcome::Stopped(stop),
             }
         }
         Verdict::Gather(header) => load(
-            receiver,
+            table,
+            progress,
             bytes,
             header,
             used,
@@ -334,14 +325,65 @@ fn settle(
     }
 }
 
-fn decline(receiver: Receiver, why: Code) -> Offered
-    ensures { λ r. ⌜ r ≡ record { receiver = receiver; used = 0; outcome = Declined why } ⌝ }
+fn decline(progress: Progress, why: Code) -> Stepped
+    ensures { λ r. ⌜ r ≡ record { progress = progress; used = 0; outcome = Declined why } ⌝ }
 {
-    Offered {
-        receiver,
+    Stepped {
+        progress,
         used: 0,
         outcome: Outcome::Refused(why),
     }
+}
+
+// An offer of a piece to a receiver whose kind table is lent: only the rest of the receiver is carried in and out.
+pub fn step(
+    table: &[u8; 256],
+    progress: Progress,
+    piece: &[u8],
+    hold: &mut [u8],
+    text: &mut [u8],
+    rows: &mut [u64],
+    nodes: &mut [u64],
+) -> Stepped
+    ensures { λ r. ⌜ offerAt (now (table .entry)) r (now (hold .exit)) (now (text .exit)) (now (rows .exit)) (now (nodes .exit)) ≡ offering editor (worldOf (receiverAt (now (table .entry)) progress) (now (hold .entry)) (now (text .entry)) (now (rows .entry)) (now (nodes .entry))) (now (piece .entry)) ⌝ }
+{
+    if hold.len() != progress.hold_len {
+        return decline(progress, code_of(Refusal::BadReceiver));
+    }
+    if progress.stop != 0 {
+        return decline(
+            progress,
+            Code {
+                number: progress.stop,
+                a: progress.stop_a,
+                b: progress.stop_b,
+            },
+        );
+    }
+    if impossible(progress) {
+        return decline(progress, code_of(Refusal::BadReceiver));
+    }
+    let held = progress.header;
+    let lacking = Frame::HEADER_LEN - progress.header_len;
+    let header = fill_header(held, progress.header_len, piece);
+    if piece.len() < lacking {
+        return Stepped {
+            progress: advance(progress, header, progress.header_len + piece.len(), 0),
+            used: piece.len(),
+            outcome: Outcome::More,
+        };
+    }
+    settle(
+        table,
+        progress,
+        header,
+        lacking,
+        piece,
+        hold,
+        text,
+        rows,
+        nodes,
+    )
 }
 
 // Offers a piece of the run. It is read to the first frame's end, a stop or the piece's end; what is left of it after a frame is offered again.
@@ -355,31 +397,14 @@ pub fn offer(
 ) -> Offered
     ensures { λ r. ⌜ offerOf r (now (hold .exit)) (now (text .exit)) (now (rows .exit)) (now (nodes .exit)) ≡ offering editor (worldOf receiver (now (hold .entry)) (now (text .entry)) (now (rows .entry)) (now (nodes .entry))) (now (piece .entry)) ⌝ }
 {
-    if hold.len() != receiver.hold_len {
-        return decline(receiver, code_of(Refusal::BadReceiver));
+    let table = receiver.table;
+    let before = receiver.progress;
+    let stepped = step(&table, before, piece, hold, text, rows, nodes);
+    let progress = stepped.progress;
+    let outcome = stepped.outcome;
+    Offered {
+        receiver: Receiver { table, progress },
+        used: stepped.used,
+        outcome,
     }
-    if receiver.stop != 0 {
-        return decline(
-            receiver,
-            Code {
-                number: receiver.stop,
-                a: receiver.stop_a,
-                b: receiver.stop_b,
-            },
-        );
-    }
-    if impossible(receiver) {
-        return decline(receiver, code_of(Refusal::BadReceiver));
-    }
-    let held = receiver.header;
-    let lacking = Frame::HEADER_LEN - receiver.header_len;
-    let header = fill_header(held, receiver.header_len, piece);
-    if piece.len() < lacking {
-        return Offered {
-            receiver: advance(receiver, header, receiver.header_len + piece.len(), 0),
-            used: piece.len(),
-            outcome: Outcome::More,
-        };
-    }
-    settle(receiver, header, lacking, piece, hold, text, rows, nodes)
 }

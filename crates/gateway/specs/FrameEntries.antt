@@ -2,8 +2,7 @@
 use mathlib.Core.Path.{_≡_, refl}
 use mathlib.Core.List.{List, [], _∷_}
 use Prim.Native.Nat.{ℕ}
-use lib.ListN.{length, getD}
-use lib.Seq.{sets}
+use lib.ListN.{getD}
 use Rattle.varint.specs.Stores.{part}
 use Rattle.varint.specs.Fixed.{le}
 use Rattle.frame.specs.Frames.{decodeHeader, decodeFrame, framed, encodeFrame, kindOf, streamOf, lengthOf}
@@ -136,12 +135,6 @@ pub record OffersTo (r : Receiver) (piece hold text rows nodes answer : List ℕ
   pub is : _≡_ {A = OfferLeft}
       (record { result = result; answer = answer′; receiver = r′; hold = hold′; text = text′; rows = rows′; nodes = nodes′ })
       (offerCall r piece hold text rows nodes)
-
--- a piece behind `have` bytes of payload, where the frame is still short: more is wanted
-pub record Extends (have : ℕ) (piece hold : List ℕ) (result : ℕ) (hold′ answer′ : List ℕ) : Type 0 where
-  pub none : result ≡ 0
-  pub stored : hold′ ≡ sets hold have (part piece 0 (length piece))
-  pub told : answer′ ≡ numbersOf (accepted (length piece) 0 noFields)
 
 -- the frame of document 01's lister, cut after its first payload byte: 5(3, 1)
 example-cut : frameCall (0x05 ∷ 0x01 ∷ 0 ∷ 0 ∷ 0 ∷ 0x03 ∷ 0 ∷ 0 ∷ 0 ∷ 0x01 ∷ [])

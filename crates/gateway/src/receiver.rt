@@ -1,7 +1,8 @@
-// The entry points of the receiver. The host lends its receiver: each wraps a step that takes it by value and gives it back, but for a piece that only lengthens
-// a payload.
+// The entry points of the receiver. The host lends its receiver: each wraps a step that takes by value what it alters, and gives it back.
 ghost use mathlib.Core.Path.{_≡_};
-ghost use Rattle.gateway.specs.FrameEntries.{ofOpening, resultOf, ofOutcome, OpensTo, OffersTo, Extends};
+ghost use Rattle.gateway.specs.FrameEntries.{ofOpening, resultOf, ofOutcome, OpensTo, OffersTo};
+ghost use Rattle.frame.specs.Offering.{receiverAt};
+ghost use Rattle.gateway.specs.Answers.{numbersOf};
 use crate::answers::Parts;
 use crate::answers::accepted;
 use crate::answers::given;
@@ -12,16 +13,21 @@ use crate::frames::with_header;
 use crate::named;
 use frame::receiver::Opening;
 use frame::receiver::Outcome;
+use frame::receiver::Progress;
 use frame::receiver::Receiver;
 use frame::receiver::entry_of;
-use frame::receiver::lengthened;
-use frame::receiver::offer;
 use frame::receiver::open;
-use varint::store::copy_bytes;
+use frame::receiver::step;
 
-// The receiver after a step, and the step's result.
+// The receiver after an opening, and the result.
 pub struct Stepped {
     pub receiver: Receiver,
+    pub code: u64,
+}
+
+// What an offer alters of a receiver, and the result.
+pub struct Advanced {
+    pub progress: Progress,
     pub code: u64,
 }
 
@@ -34,32 +40,34 @@ fn of_opening(o: Opening) -> Parts
     }
 }
 
-fn result_of(o: Outcome) -> u64
-    ensures { λ r. ⌜ r ≡ resultOf o ⌝ }
+// Tells an outcome, the message's number by the kind table, and gives the call's result.
+fn tell_outcome(table: &[u8; 256], used: u64, o: Outcome, answer: &mut [u64; 16]) -> u64
+    ensures { λ x. ⌜ (x ≡ resultOf o) × (now (answer .exit) ≡ numbersOf (ofOutcome (now (table .entry)) used o)) ⌝ }
 {
     match o {
-        Outcome::More => 0,
-        Outcome::Handed {
-            header: _,
-            answer: _,
-        } => 1,
-        Outcome::Stopped(_) => 2,
-        Outcome::Refused(_) => 3,
-    }
-}
-
-// What is told of an outcome, the message's number by the kind table.
-fn of_outcome(table: [u8; 256], used: u64, o: Outcome) -> Parts
-    ensures { λ r. ⌜ r ≡ ofOutcome table used o ⌝ }
-{
-    match o {
-        Outcome::More => accepted(used, 0, [0; 6]),
-        Outcome::Handed { header, answer } => {
-            let number = named(entry_of(table, header.kind) as u64);
-            with_header(header, used, of_message(number as u64, answer))
+        Outcome::More => {
+            tell(accepted(used, 0, [0; 6]), answer);
+            0
         }
-        Outcome::Stopped(e) => given(e, used, 0, [0; 6]),
-        Outcome::Refused(e) => given(e, used, 0, [0; 6]),
+        Outcome::Handed {
+            header,
+            answer: message,
+        } => {
+            let number = named(entry_of(table, header.kind) as u64);
+            tell(
+                with_header(header, used, of_message(number as u64, message)),
+                answer,
+            );
+            1
+        }
+        Outcome::Stopped(e) => {
+            tell(given(e, used, 0, [0; 6]), answer);
+            2
+        }
+        Outcome::Refused(e) => {
+            tell(given(e, used, 0, [0; 6]), answer);
+            3
+        }
     }
 }
 
@@ -82,34 +90,25 @@ pub fn open_step(
 }
 
 pub fn offer_step(
-    receiver: Receiver,
+    table: &[u8; 256],
+    progress: Progress,
     piece: &[u8],
     hold: &mut [u8],
     text: &mut [u8],
     rows: &mut [u64],
     nodes: &mut [u64],
     answer: &mut [u64; 16],
-) -> Stepped
-    ensures { λ o. ⌜ OffersTo receiver (now (piece .entry)) (now (hold .entry)) (now (text .entry)) (now (rows .entry)) (now (nodes .entry)) (now (answer .entry)) (o .code) (o .receiver) (now (hold .exit)) (now (text .exit)) (now (rows .exit)) (now (nodes .exit)) (now (answer .exit)) ⌝ }
+) -> Advanced
+    ensures { λ o. ⌜ OffersTo (receiverAt (now (table .entry)) progress) (now (piece .entry)) (now (hold .entry)) (now (text .entry)) (now (rows .entry)) (now (nodes .entry)) (now (answer .entry)) (o .code) (receiverAt (now (table .entry)) (o .progress)) (now (hold .exit)) (now (text .exit)) (now (rows .exit)) (now (nodes .exit)) (now (answer .exit)) ⌝ }
 {
-    let table = receiver.table;
-    let offered = offer(receiver, piece, hold, text, rows, nodes);
-    let after = offered.receiver;
-    let outcome = offered.outcome;
-    tell(of_outcome(table, offered.used as u64, outcome), answer);
-    Stepped {
-        receiver: after,
-        code: result_of(outcome),
+    let stepped = step(table, progress, piece, hold, text, rows, nodes);
+    let after = stepped.progress;
+    let outcome = stepped.outcome;
+    let code = tell_outcome(table, stepped.used as u64, outcome, answer);
+    Advanced {
+        progress: after,
+        code,
     }
-}
-
-// Puts a piece behind the payload that is held, and tells that more is wanted.
-fn extend(have: usize, piece: &[u8], hold: &mut [u8], answer: &mut [u64; 16]) -> u64
-    ensures { λ x. ⌜ Extends have (now (piece .entry)) (now (hold .entry)) x (now (hold .exit)) (now (answer .exit)) ⌝ }
-{
-    let used = piece.len();
-    copy_bytes(piece, 0, used, hold, have);
-    tell(accepted(used as u64, 0, [0; 6]), answer)
 }
 
 #[no_mangle]
@@ -126,7 +125,6 @@ pub extern "C" fn fjord_open(
     o.code
 }
 
-// A piece that only lengthens a payload, as most pieces of a long frame do, takes a short way: one count is stored, and the receiver is not copied in and out.
 #[no_mangle]
 pub extern "C" fn fjord_offer(
     receiver: &mut Receiver,
@@ -139,13 +137,16 @@ pub extern "C" fn fjord_offer(
 ) -> u64
     ensures { λ x. ⌜ OffersTo (now (receiver .entry)) (now (piece .entry)) (now (hold .entry)) (now (text .entry)) (now (rows .entry)) (now (nodes .entry)) (now (answer .entry)) x (now (receiver .exit)) (now (hold .exit)) (now (text .exit)) (now (rows .exit)) (now (nodes .exit)) (now (answer .exit)) ⌝ }
 {
-    let gathered = lengthened(*receiver, hold.len(), piece.len());
-    if gathered != 0 {
-        let have = receiver.payload_len;
-        receiver.payload_len = gathered;
-        return extend(have, piece, hold, answer);
-    }
-    let o = offer_step(*receiver, piece, hold, text, rows, nodes, answer);
-    *receiver = o.receiver;
+    let o = offer_step(
+        &receiver.table,
+        receiver.progress,
+        piece,
+        hold,
+        text,
+        rows,
+        nodes,
+        answer,
+    );
+    receiver.progress = o.progress;
     o.code
 }

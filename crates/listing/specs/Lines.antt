@@ -37,7 +37,7 @@ numberOf (Refused e) = codeOf e .number
 
 -- "the count of header and payload bytes held". Of a receiver that no offer leaves the sum may be over 64 bits: 2^64−1 stands for it.
 abbrev pub heldOf : Receiver → ℕ
-heldOf r = declared (r .«header_len» + r .«payload_len»)
+heldOf r = declared (r .progress .«header_len» + r .progress .«payload_len»)
 
 -- `held ` and `stopped `
 abbrev pub held : List ℕ

@@ -50,8 +50,9 @@ pub fn number_of(answer: Answer) -> u64
 pub fn held_of(receiver: Receiver) -> u64
     ensures { λ r. ⌜ r ≡ heldOf receiver ⌝ }
 {
-    let header = receiver.header_len as u64;
-    let payload = receiver.payload_len as u64;
+    let progress = receiver.progress;
+    let header = progress.header_len as u64;
+    let payload = progress.payload_len as u64;
     if u64::MAX - header < payload {
         return u64::MAX;
     }

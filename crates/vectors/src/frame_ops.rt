@@ -25,6 +25,7 @@ use frame::HeaderAnswer;
 use frame::receiver;
 use frame::receiver::Offered;
 use frame::receiver::Opening;
+use frame::receiver::Progress;
 use frame::receiver::Receiver;
 use frame::slot;
 use frame::slot::SlotAnswer;
@@ -203,13 +204,15 @@ fn take_receiver(request: &[u8], c: Cursor) -> Taken {
     Taken {
         receiver: Receiver {
             table,
-            header,
-            header_len: n[0] as usize,
-            payload_len: n[1] as usize,
-            hold_len: n[2] as usize,
-            stop: n[3],
-            stop_a: n[4],
-            stop_b: n[5],
+            progress: Progress {
+                header,
+                header_len: n[0] as usize,
+                payload_len: n[1] as usize,
+                hold_len: n[2] as usize,
+                stop: n[3],
+                stop_a: n[4],
+                stop_b: n[5],
+            },
         },
         next,
     }
@@ -234,14 +237,15 @@ fn show_table(w: Writer, table: [u8; 256], answer: &mut [u8]) -> Writer {
 
 fn show_receiver(w: Writer, r: Receiver, hold: &[u8], answer: &mut [u8]) -> Writer {
     let table = r.table;
-    let header = r.header;
+    let p = r.progress;
+    let header = p.header;
     let numbers = [
-        r.header_len as u64,
-        r.payload_len as u64,
-        r.hold_len as u64,
-        r.stop,
-        r.stop_a,
-        r.stop_b,
+        p.header_len as u64,
+        p.payload_len as u64,
+        p.hold_len as u64,
+        p.stop,
+        p.stop_a,
+        p.stop_b,
     ];
     show_table(w, table, answer)
         .hex(answer, &header)

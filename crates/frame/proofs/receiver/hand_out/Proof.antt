@@ -15,7 +15,7 @@ slice-reshare-prefix-decode : tie.Need-slice-reshare-prefix-decode
 slice-reshare-prefix-decode c = search needs
 
 slice-aggregate-decode : tie.Need-slice-aggregate-decode
-slice-aggregate-decode c = sym (length-take-le _ _ (c .before .before .before .before .before .before .before .before .pre))
+slice-aggregate-decode c = sym (length-take-le _ _ (c .before .before .before .before .before .before .before .pre))
 
 decode-requires : tie.Need-decode-requires
 decode-requires c κs = search needs

@@ -31,10 +31,10 @@ cast-result : tie.Need-cast-result
 cast-result c = search needs
 
 returns-3 : tie.Need-returns-3
-returns-3 c = sym (impossible-nine (c .before .before .before .before .before .before .before .before .args .receiver) (nine (c .before .before .before .before .before .before .before .before .args .receiver) (c .before .before .before .before .before .before .before .before .good .0)) (refuse _) (c .before .before .before .before .before .before .if1 .left) (c .before .before .before .before .if2 .left) (subst (Judges editor (c .before .before .before .before .before .before .before .before .args .receiver .«hold_len») (c .before .before .before .before .before .before .before .before .args .receiver .header)) (c .enum-told .given .1) (c .before .before .judge .ensures)))
+returns-3 c = sym (impossible-nine (c .before .before .before .before .before .before .before .before .args .progress) (nine (c .before .before .before .before .before .before .before .before .args .progress) (c .before .before .before .before .before .before .before .before .good .0)) (refuse _) (c .before .before .before .before .before .before .if1 .left) (c .before .before .before .before .if2 .left) (subst (Judges editor (c .before .before .before .before .before .before .before .before .args .progress .«hold_len») (c .before .before .before .before .before .before .before .before .args .progress .header)) (c .enum-told .given .1) (c .before .before .judge .ensures)))
 
 returns-4 : tie.Need-returns-4
-returns-4 c = sym (impossible-nine (c .before .before .before .before .before .before .before .before .before .before .before .args .receiver) (nine (c .before .before .before .before .before .before .before .before .before .before .before .args .receiver) (c .before .before .before .before .before .before .before .before .before .before .before .good .0)) (gather _) (c .before .before .before .before .before .before .before .before .before .if1 .left) (c .before .before .before .before .before .before .before .if2 .left) ((subst (Judges editor (c .before .before .before .before .before .before .before .before .before .before .before .args .receiver .«hold_len») (c .before .before .before .before .before .before .before .before .before .before .before .args .receiver .header)) (c .before .before .before .h .given .1) (c .before .before .before .before .before .judge .ensures)) .0))
+returns-4 c = sym (impossible-nine (c .before .before .before .before .before .before .before .before .before .before .before .args .progress) (nine (c .before .before .before .before .before .before .before .before .before .before .before .args .progress) (c .before .before .before .before .before .before .before .before .before .before .before .good .0)) (gather _) (c .before .before .before .before .before .before .before .before .before .if1 .left) (c .before .before .before .before .before .before .before .if2 .left) ((subst (Judges editor (c .before .before .before .before .before .before .before .before .before .before .before .args .progress .«hold_len») (c .before .before .before .before .before .before .before .before .before .before .before .args .progress .header)) (c .before .before .before .h .given .1) (c .before .before .before .before .before .judge .ensures)) .0))
 
 pub impossible-spec : {M : Type 1} → statement M
 impossible-spec =

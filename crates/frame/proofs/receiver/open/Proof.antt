@@ -15,12 +15,15 @@ kind-table-requires c κs = search needs
 clear-bytes-requires : tie.Need-clear-bytes-requires
 clear-bytes-requires c κs = search needs
 
+start-requires : tie.Need-start-requires
+start-requires c κs = search needs
+
 same-length : tie.Need-same-length
 same-length c = search needs
 
 returns-2 : tie.Need-returns-2
-returns-2 c = opened-over (c .before .before .before .before .before .before .before .before .args .receiver) _ _ _ _ (c .before .before .before .before .before .if1 .left) (c .before .before .before .before .kind-table .ensures) (c .before .before .clear-bytes .ensures)
+returns-2 c = opened-over (c .before .before .before .before .before .before .before .before .before .args .receiver) _ _ _ _ _ (c .before .before .before .before .before .before .if1 .left) (c .before .before .before .before .before .kind-table .ensures) (c .before .before .before .clear-bytes .ensures) (c .start .ensures)
 
 pub open-spec : {M : Type 1} → statement M
 open-spec =
-    tie.close (tie.spec returns kind-table-requires clear-bytes-requires same-length returns-2)
+    tie.close (tie.spec returns kind-table-requires clear-bytes-requires start-requires same-length returns-2)

@@ -27,14 +27,14 @@ enum-known-header c = search needs
 
 load-requires : tie.Need-load-requires
 load-requires c κs =
-    let said = (subst (Judges editor (c .before .before .before .before .before .before .before .before .before .before .before .before .before .args .receiver .«hold_len») (c .before .before .before .before .before .before .before .before .before .before .before .before .before .args .bytes)) (c .before .before .before .before .before .header .given .1) (c .before .before .before .before .before .before .before .judge .ensures)) in
+    let said = (subst (Judges editor (c .before .before .before .before .before .before .before .before .before .before .before .before .before .args .progress .«hold_len») (c .before .before .before .before .before .before .before .before .before .before .before .before .before .args .bytes)) (c .before .before .before .before .before .header .given .1) (c .before .before .before .before .before .before .before .judge .ensures)) in
     (said .1, c .before .before .before .before .before .before .before .before .before .before .before .before .before .pre .0 _ (said .0), omega (arith, said .2, c .before .before .before .before .before .before .before .before .before .before .before .before .before .pre .1), c .before .before .before .before .before .before .before .before .before .before .before .before .before .pre .2)
 
 same-length : tie.Need-same-length
 same-length c = search needs
 
 returns : tie.Need-returns
-returns c = stopped-run _ _ _ _ _ _ _ _ _ _ _ _ (subst (Judges editor (c .before .before .before .before .before .before .before .before .before .before .before .before .before .before .before .args .receiver .«hold_len») (c .before .before .before .before .before .before .before .before .before .before .before .before .before .before .before .args .bytes)) (c .before .before .before .before .before .before .before .e .given .1) (c .before .before .before .before .before .before .before .before .before .judge .ensures)) (c .before .before .before .before .before .code-of .ensures) (c .before .before .before .clear-bytes .ensures) (c .halt .ensures)
+returns c = stopped-run _ _ _ _ _ _ _ _ _ _ _ _ (subst (Judges editor (c .before .before .before .before .before .before .before .before .before .before .before .before .before .before .before .args .progress .«hold_len») (c .before .before .before .before .before .before .before .before .before .before .before .before .before .before .before .args .bytes)) (c .before .before .before .before .before .before .before .e .given .1) (c .before .before .before .before .before .before .before .before .before .judge .ensures)) (c .before .before .before .before .before .code-of .ensures) (c .before .before .before .clear-bytes .ensures) (c .halt .ensures)
 
 same-length-2 : tie.Need-same-length-2
 same-length-2 c = search needs
@@ -49,7 +49,7 @@ same-length-5 : tie.Need-same-length-5
 same-length-5 c = search needs
 
 returns-2 : tie.Need-returns-2
-returns-2 c = c .before .before .before .before .before .before .before .before .load .ensures ∙ gathered _ _ _ _ _ _ _ _ _ ((subst (Judges editor (c .before .before .before .before .before .before .before .before .before .before .before .before .before .before .before .before .before .before .before .before .before .before .args .receiver .«hold_len») (c .before .before .before .before .before .before .before .before .before .before .before .before .before .before .before .before .before .before .before .before .before .before .args .bytes)) (c .before .before .before .before .before .before .before .before .before .before .before .before .before .before .header .given .1) (c .before .before .before .before .before .before .before .before .before .before .before .before .before .before .before .before .judge .ensures)) .0)
+returns-2 c = c .before .before .before .before .before .before .before .before .load .ensures ∙ gathered _ _ _ _ _ _ _ _ _ ((subst (Judges editor (c .before .before .before .before .before .before .before .before .before .before .before .before .before .before .before .before .before .before .before .before .before .before .args .progress .«hold_len») (c .before .before .before .before .before .before .before .before .before .before .before .before .before .before .before .before .before .before .before .before .before .before .args .bytes)) (c .before .before .before .before .before .before .before .before .before .before .before .before .before .before .header .given .1) (c .before .before .before .before .before .before .before .before .before .before .before .before .before .before .before .before .judge .ensures)) .0)
 
 pub settle-spec : {M : Type 1} → statement M
 settle-spec =

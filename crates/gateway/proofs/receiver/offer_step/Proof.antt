@@ -3,17 +3,11 @@ use borrow.Author.Needs.{needs}
 use Rattle.gateway.proofs.receiver.offer_step.Statement.{statement}
 use Rattle.gateway.proofs.receiver.offer_step.Tie as tie
 
-offer-requires : tie.Need-offer-requires
-offer-requires c κs = search needs
+step-requires : tie.Need-step-requires
+step-requires c κs = search needs
 
-of-outcome-requires : tie.Need-of-outcome-requires
-of-outcome-requires c κs = search needs
-
-tell-requires : tie.Need-tell-requires
-tell-requires c κs = search needs
-
-result-of-requires : tie.Need-result-of-requires
-result-of-requires c κs = search needs
+tell-outcome-requires : tie.Need-tell-outcome-requires
+tell-outcome-requires c κs = search needs
 
 same-length : tie.Need-same-length
 same-length c = search needs
@@ -28,16 +22,14 @@ same-length-4 : tie.Need-same-length-4
 same-length-4 c = search needs
 
 returns : tie.Need-returns
-returns c = offer-told (c .before .tell .ensures) _ _ _ _ _ _ _ (c .before .before .before .before .before .before .before .before .before .before .before .before .before .offer .ensures) (c .before .before .before .of-outcome .ensures) (c .result-of .ensures)
+returns c = offer-told _ _ _ _ _ _ _ (c .before .before .before .before .before .before .before .before .before .before .before .step .ensures) (c .tell-outcome .ensures)
 
 pub offer-step-spec : {M : Type 1} → statement M
 offer-step-spec =
     tie.close
     (tie.spec
-    offer-requires
-    of-outcome-requires
-    tell-requires
-    result-of-requires
+    step-requires
+    tell-outcome-requires
     same-length
     same-length-2
     same-length-3
