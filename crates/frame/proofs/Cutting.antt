@@ -20,9 +20,10 @@ use Rattle.frame.specs.Runs.{opened, Cuts, EveryCut}
 use Rattle.frame.proofs.ListLaws.{drop-append}
 use Rattle.frame.proofs.HeldLaws.{held-none}
 use Rattle.frame.proofs.Firsts.{View, v-head, v-load, v-bad, v-whole, view, bad-stays, whole-stays, room, early, stop-number}
+use Rattle.frame.proofs.Laters.{driving-later}
 use Rattle.frame.proofs.OfferSteps.{step, offer-is}
 use Rattle.frame.proofs.ReadSteps.{read-short, read-bad, read-whole, answered-same, frame-same, none-short}
-use Rattle.frame.proofs.Stops.{plus-zero, later-stopped, driving-repeats}
+use Rattle.frame.proofs.Stops.{plus-zero, later-stopped}
 
 -- ---- runs
 
@@ -123,8 +124,8 @@ module _ (l : Limits) (c : Setup) where
   unfolding driving reading
   one-run ps b = drive-fresh (suc (size ps)) (suc (length (joined ps))) ps b (omega arith) (omega arith)
 
-  pub cutting : (ps : List (List ℕ)) (b : Lent) → Cuts (driving l (fresh c b) ps) (reading l c (joined ps) b)
-  cutting ps b = record { run = one-run ps b; again = rw one-run at (driving-repeats l (fresh c b) ps) }
+  pub cutting : (ps : List (List ℕ)) (b : Lent) → Cuts ps (driving l (fresh c b) ps) (reading l c (joined ps) b)
+  cutting ps b = record { run = one-run ps b; again = rw one-run at (driving-later l c ps b .again) }
 
 -- demand 3, as specs/Runs states it
 pub every-cut : EveryCut

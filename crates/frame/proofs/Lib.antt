@@ -2,6 +2,7 @@ pub mod Cutting
 pub mod Firsts
 pub mod FrameLaws
 pub mod HeldLaws
+pub mod Laters
 pub mod ListLaws
 pub mod OfferDepends
 pub mod OfferSteps

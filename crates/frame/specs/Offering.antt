@@ -1,11 +1,14 @@
 -- Opening a receiver, and offering it a piece: what both do for every receiver and all lent memory.
 use mathlib.Core.Bool.{Bool, true}
+use mathlib.Core.Path.{_≡_, refl}
 use mathlib.Core.List.{List, [], _∷_, _++_}
 use Prim.Native.Nat.{ℕ, _+_, _-_}
 use lib.Dec.{eqb, ltb, leb}
 use lib.ListN.{length, take, drop, replicate}
 use Rattle.varint.specs.Choice.{pick}
+use Rattle.varint.specs.Fixed.{le}
 use Rattle.varint.specs.Refusals.{codeOf}
+use Rattle.varint.specs.Stores.{part}
 use Rattle.varint.specs.declared.error.Code.{Code}
 use Rattle.varint.specs.declared.error.Refusal.the-variants.{BadReceiver, BadKindTable}
 use Rattle.protocol.specs.Decoding.{Left}
@@ -18,8 +21,8 @@ use Rattle.frame.specs.declared.receiver.Stepped.{Stepped}
 use Rattle.frame.specs.declared.receiver.Outcome.{Outcome}
 use Rattle.frame.specs.declared.receiver.Outcome.the-variants.{More, Handed, Stopped, Refused}
 use Rattle.frame.specs.declared.FrameHeader.{FrameHeader}
-use Rattle.frame.specs.Frames.{kindOf, headerOf}
-use Rattle.frame.specs.Worlds.{Limits, Setup, World, receiverOf, running, pad}
+use Rattle.frame.specs.Frames.{kindOf, lengthOf, headerOf}
+use Rattle.frame.specs.Worlds.{Limits, Setup, World, editor, receiverOf, running, pad}
 use Rattle.frame.specs.Reading.{Verdict, refuse, gather, judge, decoded, lentBy}
 
 -- ---- opening
@@ -128,6 +131,46 @@ module _ (l : Limits) where
       (pick (impossible l (w .receiver .progress)) (declined (codeOf BadReceiver) w) (takes w p))
       (declined (stopOf (w .receiver)) w))
       (declined (codeOf BadReceiver) w)
+
+-- ---- an opening, and the three refusals of an offer, worked out
+
+-- a receiver whose kind table has two entries, with a hold of three bytes that was opened for `room`, so many bytes held, and a stop
+sample : (room headerLen payloadLen : ℕ) → Code → World
+sample room g n e = record { receiver = receiverOf (record { table = 4 ∷ 7 ∷ []; room = room }) (replicate 9 5) g n e; hold = 6 ∷ 6 ∷ 6 ∷ []; lent = record { text = 8 ∷ []; rows = []; nodes = [] } }
+
+-- 256 entries: the table is kept, header and counts are zero, the hold is cleared and its length kept
+example-opened : opens (sample 3 9 9 (codeOf BadReceiver) .receiver) (replicate 256 7) (6 ∷ 6 ∷ [])
+    ≡ record { opening = O.Accepted; receiver = receiverOf (record { table = replicate 256 7; room = 2 }) (replicate 9 0) 0 0 running; hold = 0 ∷ 0 ∷ [] }
+unfolding opens sample
+example-opened = refl
+
+-- 255 entries are 18(255): receiver and hold stay as they were
+example-table : opens (sample 3 1 0 running .receiver) (replicate 255 7) (6 ∷ 6 ∷ []) ≡ record { opening = O.Refused (BadKindTable 255); receiver = sample 3 1 0 running .receiver; hold = 6 ∷ 6 ∷ [] }
+unfolding opens sample
+example-table = refl
+
+-- a hold of three bytes where four were opened: 17, also of a receiver that is stopped
+example-hold : offering editor (sample 4 0 0 (codeOf (BadKindTable 1))) (1 ∷ []) ≡ declined (codeOf BadReceiver) (sample 4 0 0 (codeOf (BadKindTable 1)))
+unfolding offering sample
+example-hold = refl
+
+-- stopped: the stored refusal, also where the counts are impossible
+example-stop : offering editor (sample 3 10 0 (record { number = 12; a = 70000000; b = 67108864 })) (1 ∷ []) ≡ declined (record { number = 12; a = 70000000; b = 67108864 }) (sample 3 10 0 (record { number = 12; a = 70000000; b = 67108864 }))
+unfolding offering sample
+example-stop = refl
+
+-- ten header bytes; payload held before the ninth; and nine header bytes whose length is over the hold's: 17
+example-counts : offering editor (sample 3 10 0 running) (1 ∷ []) ≡ declined (codeOf BadReceiver) (sample 3 10 0 running)
+unfolding offering impossible sample
+example-counts = refl
+
+example-early : offering editor (sample 3 8 1 running) (1 ∷ []) ≡ declined (codeOf BadReceiver) (sample 3 8 1 running)
+unfolding offering impossible sample
+example-early = refl
+
+example-long : offering editor (sample 3 9 0 running) (1 ∷ []) ≡ declined (codeOf BadReceiver) (sample 3 9 0 running)
+unfolding offering impossible sample judge lengthOf le part
+example-long = refl
 
 -- ---- the memory of a call, as the definitions have it
 

@@ -1,9 +1,11 @@
 -- Demand 3 as one statement, and small runs worked out.
 use mathlib.Core.Bool.{true}
 use mathlib.Core.Path.{_≡_, refl}
-use mathlib.Core.List.{List, [], _∷_, _++_, List·Memᴰ}
-use Prim.Native.Nat.{ℕ}
+use mathlib.Core.List.{List, [], _∷_, _++_, map}
+use Prim.Native.Nat.{ℕ, _-_}
+use lib.Dec.{eqb, leb}
 use lib.ListN.{length, replicate}
+use Rattle.varint.specs.Choice.{pick}
 use Rattle.varint.specs.Fixed.{le}
 use Rattle.varint.specs.Leb128.{readFrom, getU64}
 use Rattle.varint.specs.Refusals.{codeOf}
@@ -30,18 +32,27 @@ use Rattle.frame.specs.Driving.{joined, plus, Driven, later, drive, size
 abbrev pub opened : Opens → Lent → World
 opened o b = record { receiver = o .receiver; hold = o .hold; lent = b }
 
--- What pieces gave is what a reading r says: everything handed out, the bytes used, the receiver and every buffer. "Each offer in the list after a stop
--- gives the stop's refusal again and changes nothing."
-pub record Cuts (d : Driven) (r : Run) : Type 0 where
+-- the pieces behind the one that byte n of the run, counted from 1, lies in
+unfoldable pub behind : ℕ → List (List ℕ) → List (List ℕ)
+behind n [] = []
+behind n (p ∷ ps) = pick (leb n (length p)) ps (behind (n - length p) ps)
+
+-- the pieces that a run which stopped has not taken from: those behind the stop's ninth header byte, its last byte used
+unfoldable pub laterPieces : Run → List (List ℕ) → List (List ℕ)
+laterPieces r ps = pick (eqb (r .world .receiver .progress .stop) 0) [] (behind (r .used) ps)
+
+-- What pieces gave is what a reading r says: everything handed out, the bytes used, the receiver and every buffer; and each offer after the stop, one for
+-- each later piece, gave the stop's refusal, used nothing and left all as the run did.
+pub record Cuts (pieces : List (List ℕ)) (d : Driven) (r : Run) : Type 0 where
   pub run : d .run ≡ r
-  pub again : (o : Offer) → List·Memᴰ o (d .again) → o ≡ declined (stopOf (r .world .receiver)) (r .world)
+  pub again : d .again ≡ map (λ _. declined (stopOf (r .world .receiver)) (r .world)) (laterPieces r pieces)
 
 -- "For every list of pieces offered to a fresh receiver, everything handed out and every buffer equals document 01's reading of the joined bytes."
 -- "A fresh receiver comes straight from an accepted opening, with the hold as that left it; the kind table may be any, and hold, text, rows and
 -- nodes of any length." The host's receiver before the opening, and what hold, text, rows and nodes held, may be anything too.
 abbrev pub EveryCut : Type 0
 EveryCut = (before : Receiver) (table hold : List ℕ) (lent : Lent) (pieces : List (List ℕ)) → length table ≡ 256
-    → Cuts (driving editor (opened (opens before table hold) lent) pieces) (reading editor (record { table = table; room = length hold }) (joined pieces) lent)
+    → Cuts pieces (driving editor (opened (opens before table hold) lent) pieces) (reading editor (record { table = table; room = length hold }) (joined pieces) lent)
 
 -- ---- nothing stays behind
 
@@ -129,6 +140,11 @@ example-session : driving editor session cuts ≡ record {
 }
 unfolding session kinds cuts shown stopped opens decoded decodeMessage settled fitted readMessage readEntry readControl lay layControl getU64 readFrom getName getText skimText utf8 scan lead filled done after pad kindOf streamOf lengthOf le part driving drive later plus size offering impossible takes settles loads handed judge
 example-session = refl
+
+-- the two pieces behind the stop's ninth header byte, which is byte 35
+example-later : laterPieces (driving editor session cuts .run) cuts ≡ (1 ∷ 2 ∷ []) ∷ [] ∷ []
+unfolding laterPieces behind session kinds cuts opens decoded decodeMessage settled fitted readMessage readEntry readControl lay layControl getU64 readFrom getName getText skimText utf8 scan lead filled done after pad kindOf streamOf lengthOf le part driving drive later plus size offering impossible takes settles loads handed judge
+example-later = refl
 
 -- the reading of the same bytes, joined
 example-session-read : reading editor (record { table = kinds; room = 5 }) (joined cuts) (session .lent) ≡ driving editor session cuts .run
