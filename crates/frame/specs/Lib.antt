@@ -4,6 +4,6 @@ pub mod Reading
 pub mod Offering
 pub mod Agreeing
 pub mod Driving
-pub mod Judging
+pub mod inner
 pub mod Runs
 pub mod Slots

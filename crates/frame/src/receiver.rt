@@ -7,7 +7,7 @@ ghost use Rattle.frame.specs.Worlds.{editor, progressOf, receiverOf, run
 ghost use Rattle.frame.specs.Reading.{gather, decoded, judge as judging};
 ghost use Rattle.frame.specs.Offering.{opens, impossible as impossibleFor, setupOf, stopOf, handed, loads, settles, offering, worldOf, offerOf, receiverAt, offerAt};
 ghost use Rattle.frame.specs.Frames.{headerOf};
-ghost use Rattle.frame.specs.Judging.{Judges};
+ghost use Rattle.frame.specs.inner.Judging.{Judges};
 ghost use Rattle.frame.specs.declared.receiver.Outcome.the-variants.{Refused as Declined};
 use crate::Frame;
 use crate::FrameHeader;

@@ -1,7 +1,7 @@
 use mathlib.Core.Path.{sym, subst}
 use borrow.Author.Tests.{lt-ltb, le-ltb}
 use Rattle.frame.specs.Offering.{impossible}
-use Rattle.frame.specs.Judging.{Judges}
+use Rattle.frame.specs.inner.Judging.{Judges}
 use Rattle.frame.specs.Worlds.{editor}
 use Rattle.frame.specs.Reading.{refuse, gather}
 use Rattle.frame.proofs.ReceiverSteps.{impossible-nine}

@@ -1,6 +1,6 @@
 use mathlib.Core.Path.{subst, _∙_}
 use native.Mathlib.Omega.{arith}
-use Rattle.frame.specs.Judging.{Judges}
+use Rattle.frame.specs.inner.Judging.{Judges}
 use Rattle.frame.specs.Worlds.{editor}
 use Rattle.frame.proofs.ReceiverSteps.{stopped-run, gathered}
 use borrow.Author.Needs.{needs}
