@@ -7,7 +7,7 @@ use Rattle.frame.specs.Worlds.{Limits, World}
 use Rattle.frame.specs.Reading.{Event, frame, halt, denied, Run, done, after}
 use Rattle.frame.specs.Offering.{Offer, offering}
 
--- "the joined bytes"
+-- the bytes of all pieces, one after the other
 unfoldable pub joined : List (List ℕ) → List ℕ
 joined [] = []
 joined (p ∷ ps) = p ++ joined ps

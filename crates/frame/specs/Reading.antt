@@ -22,7 +22,7 @@ pub data Event : Type 0 where
   halt : Code → Event
   denied : Code → Event
 
--- all that a run leaves: what was handed out, "the bytes used in all", the receiver and the lent memory
+-- all that a run leaves: what was handed out, how many bytes were used in all, the receiver and the lent memory
 pub record Run : Type 0 where
   pub events : List Event
   pub used : ℕ

@@ -47,9 +47,10 @@ pub record Cuts (pieces : List (List ℕ)) (d : Driven) (r : Run) : Type 0 where
   pub run : d .run ≡ r
   pub again : d .again ≡ map (λ _. declined (stopOf (r .world .receiver)) (r .world)) (laterPieces r pieces)
 
--- "For every list of pieces offered to a fresh receiver, everything handed out and every buffer equals document 01's reading of the joined bytes."
--- "A fresh receiver comes straight from an accepted opening, with the hold as that left it; the kind table may be any, and hold, text, rows and
--- nodes of any length." The host's receiver before the opening, and what hold, text, rows and nodes held, may be anything too.
+-- Demand 3, "a single claim about the list of pieces": for every list of pieces offered to a fresh receiver, everything handed out and every buffer equals the
+-- reading of the joined bytes, and each offer after a stop gives the stop's refusal again and changes nothing. "A fresh receiver comes straight from an
+-- accepted opening, with the hold as that left it; the kind table may be any, and hold, text, rows and nodes of any length." The host's receiver before the
+-- opening, and what hold, text, rows and nodes held, may be anything too.
 abbrev pub EveryCut : Type 0
 EveryCut = (before : Receiver) (table hold : List ℕ) (lent : Lent) (pieces : List (List ℕ)) → length table ≡ 256
     → Cuts pieces (driving editor (opened (opens before table hold) lent) pieces) (reading editor (record { table = table; room = length hold }) (joined pieces) lent)
