@@ -1,4 +1,5 @@
 pub mod Cutting
+pub mod DrivingLaws
 pub mod Firsts
 pub mod FrameLaws
 pub mod HeldLaws
