@@ -11,14 +11,14 @@ use lib.Seq.{take-append-le, drop-append-le}
 use Rattle.varint.specs.Refusals.{codeOf}
 use Rattle.varint.specs.declared.error.Refusal.{Refusal}
 use Rattle.frame.specs.declared.receiver.Receiver.{Receiver}
-use Rattle.frame.specs.declared.receiver.Outcome.the-variants.{More, Handed, Stopped, Refused}
 use Rattle.frame.specs.Worlds.{Limits, Setup, Lent, editor, fresh}
-use Rattle.frame.specs.Reading.{Event, frame, halt, denied, Run, done, after, refuse, judge, lentBy, First, short, bad, whole, first, held, ended, answered, frameOf, read, reading}
+use Rattle.frame.specs.Reading.{Event, frame, halt, Run, done, after, refuse, judge, lentBy, First, short, bad, whole, first, held, ended, answered, frameOf, read, reading}
 use Rattle.frame.specs.Offering.{Offer, opens}
-use Rattle.frame.specs.Driving.{joined, plus, Driven, onward, handing, later, drive, size, driving}
+use Rattle.frame.specs.Driving.{joined, plus, drive, size, driving}
 use Rattle.frame.specs.Runs.{opened, Cuts, EveryCut}
 use Rattle.frame.proofs.ListLaws.{drop-append}
 use Rattle.frame.proofs.HeldLaws.{held-none}
+use Rattle.frame.proofs.DrivingLaws.{turn}
 use Rattle.frame.proofs.Firsts.{View, v-head, v-load, v-bad, v-whole, view, bad-stays, whole-stays, room, early, stop-number}
 use Rattle.frame.proofs.Laters.{driving-later}
 use Rattle.frame.proofs.OfferSteps.{step, offer-is}
@@ -43,18 +43,8 @@ module _ (l : Limits) (c : Setup) where
 
   module _ (f n : ℕ) (ih : Drives f) (h : List ℕ) (b : Lent) (p : List ℕ) (ps : List (List ℕ)) (v : View l c h short)
       (enough : length p + size ps < f) (steps : length (h ++ p ++ joined ps) < suc n) where
-    -- what follows an offer, as the driver has it
-    turn : Offer → Driven
-    turn o =
-        elim (o .outcome) [
-          | More ↦ onward (o .used) (drive l f (o .world) ps)
-          | Handed hd a ↦ handing (frame hd a (o .world .lent)) (o .used) (drive l f (o .world) (drop (o .used) p ∷ ps))
-          | Stopped e ↦ handing (halt e) (o .used) (later l (o .world) ps)
-          | Refused e ↦ handing (denied e) (o .used) (drive l f (o .world) ps)
-        ]
-
     Goal : Offer → Type 0
-    Goal o = plus (length h) (turn o .run) ≡ read l c (suc n) (h ++ p ++ joined ps) b
+    Goal o = plus (length h) (turn l (drive l f) p ps o .run) ≡ read l c (suc n) (h ++ p ++ joined ps) b
 
     at-short : View l c (h ++ p) short → Goal (step l c short h p b)
     unfolding Goal turn step

@@ -22,7 +22,7 @@ use Rattle.frame.proofs.OfferUses.{Uses, offer-uses, offer-within, hand
 
 module _ (l : Limits) where
   -- what follows an offer of p, where `rest` is what other pieces give
-  turn : (rest : World → List (List ℕ) → Driven) → (p : List ℕ) → (ps : List (List ℕ)) → Offer → Driven
+  unfoldable pub turn : (rest : World → List (List ℕ) → Driven) → (p : List ℕ) → (ps : List (List ℕ)) → Offer → Driven
   turn rest p ps o =
       elim (o .outcome) [
         | More ↦ onward (o .used) (rest (o .world) ps)

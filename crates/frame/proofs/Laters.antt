@@ -12,13 +12,13 @@ use Rattle.varint.specs.Choice.{pick}
 use Rattle.varint.specs.Refusals.{codeOf}
 use Rattle.varint.specs.declared.error.Refusal.{Refusal}
 use Rattle.varint.proofs.Basics.{below}
-use Rattle.frame.specs.declared.receiver.Outcome.the-variants.{More, Handed, Stopped, Refused}
 use Rattle.frame.specs.Worlds.{Limits, Setup, Lent, fresh}
-use Rattle.frame.specs.Reading.{Event, frame, halt, denied, Run, done, after, refuse, judge, lentBy, First, short, bad, whole, first, held, ended, answered}
+use Rattle.frame.specs.Reading.{Event, done, after, refuse, judge, lentBy, First, short, bad, whole, first, held, ended, answered}
 use Rattle.frame.specs.Offering.{Offer, declined, stopOf}
-use Rattle.frame.specs.Driving.{plus, Driven, onward, handing, later, drive, size, driving}
+use Rattle.frame.specs.Driving.{plus, Driven, later, drive, size, driving}
 use Rattle.frame.specs.Runs.{behind, laterPieces}
 use Rattle.frame.proofs.HeldLaws.{held-none}
+use Rattle.frame.proofs.DrivingLaws.{turn}
 use Rattle.frame.proofs.Firsts.{View, v-head, v-load, v-bad, v-whole, view, room, early, stop-number}
 use Rattle.frame.proofs.OfferSteps.{step, offer-is}
 use Rattle.frame.proofs.ReadSteps.{none-short}
@@ -76,17 +76,8 @@ module _ (d : Driven) (qs : List (List ℕ)) (e : Later qs d) (u : ℕ) (ps : Li
 module _ (l : Limits) (c : Setup) where
   module _ (f : ℕ) (ih : (h : List ℕ) (b : Lent) (ps : List (List ℕ)) → View l c h short → Later ps (drive l f (held l c h b) ps))
       (h : List ℕ) (b : Lent) (p : List ℕ) (ps : List (List ℕ)) (v : View l c h short) where
-    turn : Offer → Driven
-    turn o =
-        elim (o .outcome) [
-          | More ↦ onward (o .used) (drive l f (o .world) ps)
-          | Handed hd a ↦ handing (frame hd a (o .world .lent)) (o .used) (drive l f (o .world) (drop (o .used) p ∷ ps))
-          | Stopped e ↦ handing (halt e) (o .used) (later l (o .world) ps)
-          | Refused e ↦ handing (denied e) (o .used) (drive l f (o .world) ps)
-        ]
-
     Goal : Offer → Type 0
-    Goal o = Later (p ∷ ps) (turn o)
+    Goal o = Later (p ∷ ps) (turn l (drive l f) p ps o)
 
     at-short : View l c (h ++ p) short → Goal (step l c short h p b)
     unfolding Goal turn step plus

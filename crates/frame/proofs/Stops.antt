@@ -1,21 +1,15 @@
 -- After a stop: each offer gives the stop's refusal again, uses nothing and alters nothing.
-use mathlib.Core.Path.{_≡_, refl, _∙_}
-use mathlib.Core.Logic.{_≢_, ⊎-elim}
-use mathlib.Core.List.{List, [], _∷_, _++_, map, List·Memᴰ, List·Memᴰ·cases-cons, List·Memᴰ·not-nil}
-use Prim.Native.Nat.{ℕ, zero, suc, _-_}
+use mathlib.Core.Path.{_≡_, refl}
+use mathlib.Core.Logic.{_≢_}
+use mathlib.Core.List.{List, [], _∷_, map}
+use Prim.Native.Nat.{ℕ}
 use native.Mathlib.Nat.{zero-add}
-use native.Mathlib.Omega.{arith}
-use borrow.Author.Tests.{eq-eqb, ne-eqb, eqb-true}
-use lib.Dec.{ltb, eqb}
-use lib.ListN.{length, take, drop, length-replicate}
-use Rattle.varint.proofs.Basics.{pick-cases}
-use Rattle.frame.specs.declared.receiver.Outcome.{Outcome}
-use Rattle.frame.specs.declared.receiver.Outcome.the-variants.{More, Handed, Stopped, Refused}
+use borrow.Author.Tests.{eq-eqb, ne-eqb}
+use lib.ListN.{length}
 use Rattle.frame.specs.Worlds.{Limits, World}
-use Rattle.frame.specs.Reading.{Verdict, refuse, gather, frame, halt, denied, judge, Run, done, after}
-use Rattle.frame.specs.Offering.{Offer, declined, stopOf, headerHeld, payloadHeld, impossible, handed, loads, settles, takes, offering}
-use Rattle.frame.specs.Driving.{plus, Driven, onward, handing, later, drive, size, driving}
-use Rattle.frame.proofs.Firsts.{stop-number}
+use Rattle.frame.specs.Reading.{Run, done}
+use Rattle.frame.specs.Offering.{declined, stopOf, offering}
+use Rattle.frame.specs.Driving.{plus, later}
 
 pub plus-zero : (r : Run) → plus 0 r ≡ r
 unfolding plus
