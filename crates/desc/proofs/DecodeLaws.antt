@@ -20,7 +20,7 @@ use Rattle.desc.specs.Decoding.{measured, storedAs, Left, kept, settled,
 use Rattle.desc.specs.Layout.{width, texts, placed, rows}
 use Rattle.desc.specs.Reading.{desc}
 use Rattle.desc.specs.Trees.{Tree, size}
-use Rattle.desc.specs.Walking.{outcome, Agrees}
+use Rattle.desc.specs.inner.Walking.{outcome, Agrees}
 use Rattle.desc.proofs.LayoutLaws.{length-placed}
 use Rattle.desc.proofs.SkimLaws.{desc-skims}
 

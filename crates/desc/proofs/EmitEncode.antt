@@ -15,7 +15,7 @@ use Rattle.varint.specs.declared.error.Refusal.{Refusal}
 use Rattle.varint.specs.declared.error.Refusal.the-variants.{BlockTooLarge, TooSmall}
 use Rattle.varint.proofs.OutLaws.{out-refused, out-wrote}
 use Rattle.desc.specs.declared.write.Emitted.{Emitted}
-use Rattle.desc.specs.Emitting.{emission, told}
+use Rattle.desc.specs.inner.Emission.{emission, told}
 use Rattle.desc.specs.Encoding.{heldIn, sent, encodeDesc}
 use Rattle.desc.specs.Printing.{print}
 use Rattle.desc.specs.Table.{table}

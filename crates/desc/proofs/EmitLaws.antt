@@ -14,7 +14,8 @@ use Rattle.varint.specs.declared.error.Refusal.the-variants.{BadMessage}
 use Rattle.varint.proofs.Basics.{test}
 use Rattle.desc.specs.declared.write.Emitted.{Emitted}
 use Rattle.desc.specs.declared.write.Emitted.the-variants.{Done, Wrong}
-use Rattle.desc.specs.Emitting.{Pen, putNumber, putWhere, putLabel, putTree, putKids, Emission, wrong, done, emission, told}
+use Rattle.desc.specs.Emitting.{Pen, putNumber, putWhere, putLabel, putTree, putKids}
+use Rattle.desc.specs.inner.Emission.{Emission, wrong, done, emission, told}
 use Rattle.desc.specs.Layout.{Span}
 use Rattle.desc.specs.Table.{cell, nodeFits, isBranch, kidsAt, closedAt, table}
 use Rattle.desc.specs.Trees.{Tree, leaf, Kids, more, kidCount}

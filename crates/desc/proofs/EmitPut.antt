@@ -8,7 +8,8 @@ use Rattle.varint.specs.Formats.{Got, got, bad}
 use Rattle.varint.specs.Outs.{declared}
 use Rattle.desc.specs.declared.write.Emitted.{Emitted}
 use Rattle.desc.specs.declared.write.Emitted.the-variants.{Done, Wrong}
-use Rattle.desc.specs.Emitting.{Pen, putTree, emission, told, spanSize, sized, Put, putDesc}
+use Rattle.desc.specs.Emitting.{Pen, putTree, spanSize, sized, Put, putDesc}
+use Rattle.desc.specs.inner.Emission.{emission, told}
 use Rattle.desc.specs.Layout.{Span}
 use Rattle.desc.specs.Trees.{Tree}
 use Rattle.desc.proofs.EmitPast.{tree-past}

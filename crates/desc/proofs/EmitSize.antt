@@ -12,7 +12,8 @@ use Rattle.varint.specs.Leb128.{putU64}
 use Rattle.varint.specs.Outs.{declared}
 use Rattle.desc.specs.declared.write.Emitted.{Emitted}
 use Rattle.desc.specs.declared.write.Emitted.the-variants.{Done, Wrong}
-use Rattle.desc.specs.Emitting.{Pen, putBytes, putNumber, putWhere, putName, putLabel, putTree, putKids, emission, told, spanSize, kidsSpan, sized}
+use Rattle.desc.specs.Emitting.{Pen, putBytes, putNumber, putWhere, putName, putLabel, putTree, putKids, spanSize, kidsSpan, sized}
+use Rattle.desc.specs.inner.Emission.{emission, told}
 use Rattle.desc.specs.Layout.{Span}
 use Rattle.desc.specs.Trees.{Tree, leaf, branch, Kids, none, more, kidCount}
 use Rattle.desc.proofs.EmitPrint.{last}

@@ -15,7 +15,8 @@ use Rattle.desc.specs.declared.write.Emitted.{Emitted}
 use Rattle.desc.specs.declared.write.Emitted.the-variants.{Done, Wrong}
 use Rattle.desc.specs.declared.write.Names.{Names}
 use Rattle.desc.specs.declared.write.Names.the-variants.{Good, Refused}
-use Rattle.desc.specs.Emitting.{Pen, putBytes, done, emission, told, spanSize, sized, verdict, namesFrom}
+use Rattle.desc.specs.Emitting.{Pen, putBytes, spanSize, sized, verdict, namesFrom}
+use Rattle.desc.specs.inner.Emission.{done, emission, told}
 use Rattle.desc.specs.Encoding.{heldIn}
 use Rattle.desc.specs.Layout.{Span}
 use Rattle.desc.specs.Printing.{print}

@@ -13,7 +13,7 @@ use Rattle.desc.specs.declared.Walked.the-variants.{Read, Refused as Not
 use Rattle.desc.specs.Decoding.{measured, storedAs, filledBy, fillDesc}
 use Rattle.desc.specs.Reading.{desc}
 use Rattle.desc.specs.Trees.{Tree}
-use Rattle.desc.specs.Walking.{outcome, Agrees}
+use Rattle.desc.specs.inner.Walking.{outcome, Agrees}
 
 module _ (tx : List ℕ) (t : ℕ) (nd : List ℕ) (n : ℕ) where
   none-stored : (D : Got (Tree (List ℕ))) (e : Refusal) → measured D ≡ NotRead e → filledBy D tx t nd n ≡ record { text = tx; nodes = nd }

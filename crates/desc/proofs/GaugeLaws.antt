@@ -10,7 +10,8 @@ use Rattle.varint.specs.Outs.{declared}
 use Rattle.varint.specs.Stores.{part}
 use Rattle.varint.proofs.PutLaws.{put-small}
 use Rattle.varint.proofs.StoreLaws.{sets-out}
-use Rattle.desc.specs.Emitting.{nowhere, putBytes, putNumber, putName}
+use Rattle.desc.specs.Emitting.{putBytes, putNumber, putName}
+use Rattle.desc.specs.inner.Emission.{nowhere}
 use Rattle.desc.specs.Layout.{Span}
 use Rattle.desc.specs.Table.{cell, nodeFits}
 use Rattle.desc.proofs.NodeFits.{fits}

@@ -13,9 +13,9 @@ use borrow.Author.Tests.{ltb-true, leb-true, eqb-true}
 use Rattle.varint.proofs.Basics.{both, clash}
 use Rattle.desc.specs.Layout.{Span, width, row}
 use Rattle.desc.specs.Table.{cell, rootName, discriminantFits, predicateFits, isBranch, leafFits, nodeFits}
-use Rattle.desc.specs.WellFormed.{LeafOk, BranchOk, LabelOk, Under, root, below}
+use Rattle.desc.specs.WellFormed.{LeafOk, BranchOk, LabelOk}
 use Rattle.desc.proofs.TableRows.{Row}
-use Rattle.desc.proofs.Tags.{branch-ok, leaf-of, branch-plain, label-of}
+use Rattle.desc.proofs.Tags.{Under, root, below, branch-ok, leaf-of, branch-plain, label-of}
 
 -- Rows that stand there already
 

@@ -13,7 +13,7 @@ use Rattle.desc.specs.declared.Walked.the-variants.{Read, Refused as Not
 use Rattle.desc.specs.Decoding.{storedAs}
 use Rattle.desc.specs.Layout.{Span, width, row, texts, kidTexts, placed, placedKids, rows, kidRows}
 use Rattle.desc.specs.Trees.{Tree, branch, Kids, more, kidCount, size, kidSize}
-use Rattle.desc.specs.Walking.{Outcome, refused, done, outcome, Agrees}
+use Rattle.desc.specs.inner.Walking.{Outcome, refused, done, outcome, Agrees}
 use Rattle.desc.proofs.LayoutLaws.{size-placed, kids-placed, count-placed, length-placed}
 
 -- what reading the children that are left does to the buffers, where i were read before them

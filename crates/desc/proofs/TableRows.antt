@@ -14,8 +14,9 @@ use Rattle.varint.specs.Formats.{got}
 use Rattle.desc.specs.Layout.{Span, width, row, rows, kidRows}
 use Rattle.desc.specs.Table.{cell, rootName, discriminantFits, predicateFits, isBranch, leafFits, nodeFits, kidsAt, table}
 use Rattle.desc.specs.Trees.{Tree, leaf, branch, Kids, none, more, kidCount, size, kidSize}
-use Rattle.desc.specs.WellFormed.{LeafOk, int, string, fact, bytes, BranchOk, record-type, union-type, field, alternative, Under, root, below, Fine, FineKids}
+use Rattle.desc.specs.WellFormed.{LeafOk, int, string, fact, bytes, BranchOk, record-type, union-type, field, alternative, Fine, FineKids}
 use Rattle.desc.proofs.LayoutLaws.{length-rows}
+use Rattle.desc.proofs.Tags.{Under, root, below}
 
 -- the columns of node n
 pub record Row (nd : List ℕ) (n tag : ℕ) (name : Span) (d p count end : ℕ) : Type 0 where

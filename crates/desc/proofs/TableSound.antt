@@ -16,10 +16,11 @@ use Rattle.varint.proofs.StoreLaws.{sets-append}
 use Rattle.desc.specs.Layout.{Span, width, row, rows, kidRows}
 use Rattle.desc.specs.Table.{cell, isBranch, nodeFits, kidsAt, closedAt, table}
 use Rattle.desc.specs.Trees.{Tree, leaf, branch, Kids, none, more, kidCount, size, kidSize}
-use Rattle.desc.specs.WellFormed.{BranchOk, Under, Fine, FineKids}
+use Rattle.desc.specs.WellFormed.{BranchOk, Fine, FineKids}
 use Rattle.desc.proofs.GotAs.{GotAs, then-got, got-as}
 use Rattle.desc.proofs.NodeFits.{Fits, fits, nameAt, row-same, label-under, leaf-row, leaf-is, branch-is, branch-row}
 use Rattle.desc.proofs.LayoutLaws.{length-rows}
+use Rattle.desc.proofs.Tags.{Under}
 
 -- the tree st is laid out from node n on, and ends before node m
 pub record Laid (depth parent : ℕ) (nd : List ℕ) (n : ℕ) (st : Tree Span) (m : ℕ) : Type 0 where

@@ -20,11 +20,12 @@ use Rattle.desc.specs.Printing.{print}
 use Rattle.desc.specs.Reading.{desc}
 use Rattle.desc.specs.Table.{table}
 use Rattle.desc.specs.Trees.{Tree, size}
-use Rattle.desc.specs.WellFormed.{root, Fine}
+use Rattle.desc.specs.WellFormed.{Fine}
 use Rattle.desc.proofs.GatherPlaced.{gather-placed, placed-fine}
 use Rattle.desc.proofs.LayoutLaws.{size-placed, length-rows}
 use Rattle.desc.proofs.ReadPrint.{read-print}
 use Rattle.desc.proofs.TableRows.{table-rows}
+use Rattle.desc.proofs.Tags.{root}
 
 -- the nodes of a tree whose texts are joined from place 0 on
 abbrev pub layout : Tree (List ℕ) → List ℕ

@@ -15,7 +15,7 @@ use Rattle.desc.specs.declared.Walked.{Walked}
 use Rattle.desc.specs.declared.Walked.the-variants.{Read, Refused as NotRead}
 use Rattle.desc.specs.Reading.{labelAt, children}
 use Rattle.desc.specs.Trees.{Tree}
-use Rattle.desc.specs.Walking.{refused, outcome, Agrees}
+use Rattle.desc.specs.inner.Walking.{refused, outcome, Agrees}
 use Rattle.desc.proofs.HeadLaws.{label-inside}
 use Rattle.desc.proofs.KidLaws.{one-more, label-refused, kid-refused}
 use Rattle.desc.proofs.Outcomes.{outcomeKids, more-law, agrees-read, agrees-refused}

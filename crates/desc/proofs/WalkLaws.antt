@@ -16,7 +16,7 @@ use Rattle.desc.specs.Decoding.{storedAs}
 use Rattle.desc.specs.Layout.{Span, width, row, texts, placed, rows}
 use Rattle.desc.specs.Reading.{headAt, children, descOn, desc}
 use Rattle.desc.specs.Trees.{size, kidCount}
-use Rattle.desc.specs.Walking.{Outcome, refused, done, outcome, Agrees}
+use Rattle.desc.specs.inner.Walking.{Outcome, refused, done, outcome, Agrees}
 use Rattle.desc.proofs.HeadLaws.{leaf-inside}
 use Rattle.desc.proofs.Outcomes.{outcomeKids, closeRow, closed-law}
 

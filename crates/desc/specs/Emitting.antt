@@ -1,4 +1,4 @@
--- Writing a node table as bytes from a place of a buffer on: the statement of the recursive writer.
+-- Writing a node table as bytes from a place of a buffer on, its size, and its names: what a writer of messages that hold descriptors calls.
 use mathlib.Core.Bool.{Bool}
 use mathlib.Core.Path.{_≡_, refl}
 use mathlib.Core.List.{List, [], _∷_}
@@ -26,10 +26,6 @@ pub record Pen : Type 0 where
   pub out : List ℕ
   pub place : ℕ
 
--- a pen over no bytes: what is written moves the place alone
-abbrev pub nowhere : ℕ → Pen
-nowhere at = record { out = []; place = at }
-
 unfoldable pub putBytes : List ℕ → Pen → Pen
 putBytes x s = record { out = sets (s .out) (s .place) x; place = declared (s .place + length x) }
 
@@ -56,21 +52,6 @@ unfoldable mutual
   pub putKids : List ℕ → ℕ → Kids Span → Pen → Pen
   putKids tx tag none s = s
   putKids tx tag (more name d t ks) s = putKids tx tag ks (putTree tx t (putLabel tx tag name d s))
-
--- what writing leaves: the node after the last one written, and the buffer
-pub data Emission : Type 0 where
-  wrong : Emission
-  done : ℕ → Pen → Emission
-
--- of a table that is not laid out as one nothing is said but that
-unfoldable pub emission : List ℕ → Got (Tree Span) → Pen → Emission
-emission tx (got tr next) s = done next (putTree tx tr s)
-emission tx (bad e) s = wrong
-
--- what the writer answers, with the buffer after it
-unfoldable pub told : Emitted → List ℕ → Emission
-told (Done next place) out = done next (record { out = out; place = place })
-told Wrong out = wrong
 
 -- A writer that tests the table first, and writes nothing of one that is not laid out as one.
 pub record Put : Type 0 where
@@ -114,7 +95,12 @@ namesFrom tx nd m zero = Good
 namesFrom tx nd m (suc k) = thenNames (verdict (nameHeld tx (cell nd m startAt) (cell nd m lenAt))) (namesFrom tx nd (m + 1) k)
 
 -- a record with one field "a", an int, into a buffer that is two bytes short of it
-example-emission : emission (0x61 ∷ []) (table 2 (3 ∷ 0 ∷ 0 ∷ 0 ∷ 0 ∷ 1 ∷ 2 ∷ 0 ∷ 0 ∷ 1 ∷ 0 ∷ 0 ∷ 0 ∷ 2 ∷ []) 0 0) (record { out = 9 ∷ 9 ∷ 9 ∷ 9 ∷ []; place = 1 })
-    ≡ done 2 (record { out = 9 ∷ 3 ∷ 1 ∷ 1 ∷ []; place = 6 })
-unfolding emission table nodeFits rootName discriminantFits predicateFits isBranch leafFits kidsAt putTree kidCount putLabel putName putWhere putNumber putBytes putU64 putBy part
-example-emission = refl
+example-put : putDesc (0x61 ∷ []) (table 2 (3 ∷ 0 ∷ 0 ∷ 0 ∷ 0 ∷ 1 ∷ 2 ∷ 0 ∷ 0 ∷ 1 ∷ 0 ∷ 0 ∷ 0 ∷ 2 ∷ []) 0 0) (record { out = 9 ∷ 9 ∷ 9 ∷ 9 ∷ []; place = 1 })
+    ≡ record { answer = Done 2 6; out = 9 ∷ 3 ∷ 1 ∷ 1 ∷ [] }
+unfolding putDesc table nodeFits rootName discriminantFits predicateFits isBranch leafFits kidsAt putTree kidCount putLabel putName putWhere putNumber putBytes putU64 putBy part
+example-put = refl
+
+-- it takes five bytes
+example-sized : sized (table 2 (3 ∷ 0 ∷ 0 ∷ 0 ∷ 0 ∷ 1 ∷ 2 ∷ 0 ∷ 0 ∷ 1 ∷ 0 ∷ 0 ∷ 0 ∷ 2 ∷ []) 0 0) ≡ Done 2 5
+unfolding sized spanSize table nodeFits rootName discriminantFits predicateFits isBranch leafFits kidsAt kidCount putU64 putBy
+example-sized = refl

@@ -7,5 +7,5 @@ pub mod Reading
 pub mod Table
 pub mod Trees
 pub mod Tried
-pub mod Walking
 pub mod WellFormed
+pub mod inner

@@ -4,7 +4,6 @@ use mathlib.Core.List.{List}
 use Prim.Native.Nat.{ℕ, zero, suc, _^_, _<_}
 use lib.Dec.{lit<}
 use Rattle.varint.specs.Formats.{Format}
-use Rattle.desc.specs.Layout.{Span}
 use Rattle.desc.specs.Printing.{print}
 use Rattle.desc.specs.Reading.{desc}
 use Rattle.desc.specs.Trees.{Tree, leaf, branch, Kids, none, more, kidCount}
@@ -25,11 +24,6 @@ pub data BranchOk : ℕ → Type 0 where
 pub data LabelOk : ℕ → ℕ → Type 0 where
   field : LabelOk 3 0
   alternative : {d : ℕ} → d < 2 ^ 32 → LabelOk 4 d
-
--- a node's name and discriminant, by the tag of the type that it is a part of, 0 for none: "a root's name is 0, 0"
-pub data Under : ℕ → Span → ℕ → Type 0 where
-  root : Under 0 (0, 0) 0
-  below : {tag d : ℕ} {name : Span} → LabelOk tag d → Under tag name d
 
 -- one of `depth` levels is left for a thing, and P holds of how many are left inside it
 abbrev pub Inside : ℕ → (ℕ → Type 0) → Type 0

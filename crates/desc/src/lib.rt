@@ -12,7 +12,7 @@ ghost use Prim.Native.Nat.{_+_, _≤_};
 ghost use lib.ListN.{length};
 ghost use Rattle.desc.specs.Decoding.{measured, fillDesc, decodeDesc};
 ghost use Rattle.desc.specs.Reading.{desc};
-ghost use Rattle.desc.specs.Walking.{outcome, Agrees};
+ghost use Rattle.desc.specs.inner.Walking.{outcome, Agrees};
 use head::Head;
 use head::Label;
 use head::read_head;

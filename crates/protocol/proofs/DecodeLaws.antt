@@ -18,7 +18,7 @@ use Rattle.varint.proofs.Basics.{clash, both}
 use Rattle.varint.proofs.StoreLaws.{part-all, filled-steps}
 use Rattle.protocol.specs.Decoding.{Left, kept, fitted, settled, decodeMessage}
 use Rattle.protocol.specs.Laying.{Laid}
-use Rattle.protocol.specs.Loading.{outcome, laidAs, told, bare, Reads, ReadsBare, ReadsEntry}
+use Rattle.protocol.specs.inner.Loading.{outcome, laidAs, told, bare, Reads, ReadsBare, ReadsEntry}
 use Rattle.protocol.specs.Said.{Said, opaque, readEntry, readMessage, lay}
 use Rattle.protocol.specs.declared.message.Answer.the-variants.{Accepted}
 use Rattle.protocol.specs.declared.message.Message.{Message}

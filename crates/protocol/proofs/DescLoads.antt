@@ -17,7 +17,7 @@ use Rattle.desc.specs.declared.Walked.{Walked}
 use Rattle.desc.specs.declared.Walked.the-variants.{Read, Refused}
 use Rattle.desc.proofs.Bounds.{measured-bounds}
 use Rattle.protocol.specs.Fields.{descriptor, optionalOn, present}
-use Rattle.protocol.specs.Loading.{stored, Mem, put, loaded, load, toldRow, LoadsNodes, descLeft, Within}
+use Rattle.protocol.specs.inner.Loading.{stored, Mem, put, loaded, load, toldRow, LoadsNodes, descLeft, Within}
 use Rattle.protocol.specs.Pieces.{tree}
 use Rattle.protocol.specs.Types.{layValue}
 use Rattle.protocol.proofs.PieceLaws.{put-none}

@@ -26,7 +26,7 @@ use Rattle.protocol.specs.Error.{readError}
 use Rattle.protocol.specs.Fetch.{digest, pair, readFetch}
 use Rattle.protocol.specs.Fields.{textBy, errorCode, controlOp, flag, mode, toEnd}
 use Rattle.protocol.specs.Ids.{readIds}
-use Rattle.protocol.specs.Loading.{laidAs, layFinished, session}
+use Rattle.protocol.specs.inner.Loading.{laidAs, layFinished, session}
 use Rattle.protocol.specs.Page.{readPage}
 use Rattle.protocol.specs.Profile.{Step, step, readProfile}
 use Rattle.protocol.specs.Reply.{Finished, created, finished, removed, finish, replyOn, readReply, layReply}

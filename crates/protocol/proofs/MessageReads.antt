@@ -14,7 +14,7 @@ use Rattle.varint.specs.declared.error.Refusal.{Refusal}
 use Rattle.varint.specs.declared.error.Refusal.the-variants.{TrailingBytes}
 use Rattle.varint.proofs.FormatParts.{went, got-of, no-got}
 use Rattle.protocol.specs.Laying.{Laid}
-use Rattle.protocol.specs.Loading.{stored, outcome, laidAs, told, bare, ReadsBare, ReadsText, ReadsEntry, BareEntry, layFinished}
+use Rattle.protocol.specs.inner.Loading.{stored, outcome, laidAs, told, bare, ReadsBare, ReadsText, ReadsEntry, BareEntry, layFinished}
 use Rattle.protocol.specs.Pieces.{none, words, _⊕_}
 use Rattle.protocol.specs.Reply.{removed, finish, layReply}
 use Rattle.protocol.specs.Said.{Said, saying, readEntry, lay}

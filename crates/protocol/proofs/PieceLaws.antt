@@ -9,7 +9,7 @@ use lib.ListN.{length, length-append}
 use Rattle.desc.specs.Layout.{width, placed, rows}
 use Rattle.desc.specs.Trees.{Tree, size}
 use Rattle.desc.proofs.LayoutLaws.{size-placed, length-rows}
-use Rattle.protocol.specs.Loading.{stored, Mem, put}
+use Rattle.protocol.specs.inner.Loading.{stored, Mem, put}
 use Rattle.protocol.specs.Pieces.{Piece, none, tree, _⊕_}
 use Rattle.protocol.proofs.RowStores.{stored-append, stored-none}
 

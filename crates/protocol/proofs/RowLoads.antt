@@ -8,7 +8,7 @@ use lib.ListN.{length}
 use Rattle.varint.specs.Formats.{Got, got, bad}
 use Rattle.varint.specs.declared.error.Refusal.{Refusal}
 use Rattle.desc.specs.Layout.{width}
-use Rattle.protocol.specs.Loading.{stored, put, loaded, load, toldRow, toldFlat, beside, LoadsFlat, LoadsCells}
+use Rattle.protocol.specs.inner.Loading.{stored, put, loaded, load, toldRow, toldFlat, beside, LoadsFlat, LoadsCells}
 use Rattle.protocol.specs.Pieces.{Piece}
 use Rattle.desc.specs.declared.Walked.{Walked}
 use Rattle.protocol.specs.declared.rows.Flat.{Flat}

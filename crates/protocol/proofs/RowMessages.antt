@@ -19,7 +19,7 @@ use Rattle.desc.specs.declared.Walked.the-variants as W
 use Rattle.protocol.specs.Fetch.{pair}
 use Rattle.protocol.specs.Ids.{layId}
 use Rattle.protocol.specs.Laying.{Laid}
-use Rattle.protocol.specs.Loading.{stored, Mem, put, loaded, failed, load, loadRows, toldRow, LoadsRows, refused, outcome, told, Reads}
+use Rattle.protocol.specs.inner.Loading.{stored, Mem, put, loaded, failed, load, loadRows, toldRow, LoadsRows, refused, outcome, told, Reads}
 use Rattle.protocol.specs.Pieces.{Piece, many}
 use Rattle.protocol.specs.Profile.{step, layStep}
 use Rattle.protocol.specs.Startup.{Claim, claim, layClaim}

@@ -8,7 +8,7 @@ use lib.ListN.{length, set, drop, length-drop, take-append-drop}
 use lib.Seq.{sets, take-all, drop-drop}
 use Rattle.varint.specs.Stores.{part}
 use Rattle.varint.proofs.StoreLaws.{sets-append, sets-out}
-use Rattle.protocol.specs.Loading.{stored}
+use Rattle.protocol.specs.inner.Loading.{stored}
 
 pub three-stored : (d : List ℕ) (r a b c : ℕ) → set (set (set d r a) (r + 1) b) (r + 2) c ≡ sets d r (a ∷ b ∷ c ∷ [])
 three-stored d r a b c = let e : r + 1 ≡ suc r = omega arith in let f : r + 2 ≡ suc (suc r) = omega arith in rw (e, f)

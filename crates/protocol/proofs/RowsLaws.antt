@@ -10,7 +10,7 @@ use Rattle.varint.specs.declared.error.Refusal.{Refusal}
 use Rattle.varint.proofs.FormatEnds.{Ends, varint-ends}
 use Rattle.protocol.specs.Fetch.{pair}
 use Rattle.protocol.specs.Ids.{layId}
-use Rattle.protocol.specs.Loading.{Mem, put, loaded, failed, load, loadRow, loadRows}
+use Rattle.protocol.specs.inner.Loading.{Mem, put, loaded, failed, load, loadRow, loadRows}
 use Rattle.protocol.specs.Pieces.{Piece, many}
 use Rattle.protocol.specs.Profile.{step, layStep}
 use Rattle.protocol.specs.Rows.{widthOf}

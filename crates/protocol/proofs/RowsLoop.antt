@@ -7,7 +7,7 @@ use native.Mathlib.Omega.{arith}
 use lib.ListN.{length}
 use Rattle.varint.specs.declared.error.Refusal.{Refusal}
 use Rattle.desc.specs.declared.Walked.the-variants.{Read, Refused}
-use Rattle.protocol.specs.Loading.{Mem, Loaded, loaded, failed, loadRow, loadRows, toldRow, Within, LoadsRows}
+use Rattle.protocol.specs.inner.Loading.{Mem, Loaded, loaded, failed, loadRow, loadRows, toldRow, Within, LoadsRows}
 use Rattle.protocol.specs.Rows.{widthOf}
 use Rattle.protocol.specs.declared.message.RowKind.{RowKind}
 use Rattle.protocol.proofs.RowsLaws.{rows-more, rows-none, rows-failed, Took, row-took}

@@ -19,7 +19,7 @@ use Rattle.varint.specs.declared.text.ReadText.the-variants.{Text}
 use Rattle.desc.specs.Layout.{width}
 use Rattle.desc.specs.Reading.{nameBy}
 use Rattle.protocol.specs.Fields.{narrow}
-use Rattle.protocol.specs.Loading.{stored, outcome, laidAs, told, Reads, session, sessionOf, sessionOutcome, SessionRead}
+use Rattle.protocol.specs.inner.Loading.{stored, outcome, laidAs, told, Reads, session, sessionOf, sessionOutcome, SessionRead}
 use Rattle.protocol.specs.Pieces.{many}
 use Rattle.protocol.specs.Startup.{Claim, claim, layClaim, toStartup, readStartup, layStartup}
 use Rattle.protocol.specs.Wholes.{ended}

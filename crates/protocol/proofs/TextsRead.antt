@@ -14,7 +14,7 @@ use Rattle.varint.proofs.StoreLaws.{length-part}
 use Rattle.varint.proofs.TextLaws.{TextEnds, skim-ends, text-skims}
 use Rattle.desc.specs.Reading.{nameBy}
 use Rattle.protocol.specs.Fields.{textBy}
-use Rattle.protocol.specs.Loading.{stored, textLeft}
+use Rattle.protocol.specs.inner.Loading.{stored, textLeft}
 
 module _ (s tx : List ℕ) (t : ℕ) where
   -- the first reading leaves the text alone

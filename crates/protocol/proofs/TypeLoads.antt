@@ -20,7 +20,7 @@ use Rattle.desc.specs.Trees.{Tree}
 use Rattle.desc.specs.declared.Walked.{Walked}
 use Rattle.desc.specs.declared.Walked.the-variants.{Read, Refused}
 use Rattle.protocol.specs.Fields.{bit, name, wideFlag, descriptor, Optional, present, optionalOn}
-use Rattle.protocol.specs.Loading.{stored, Mem, put, loaded, load, toldRow, LoadsNodes, sides, laySides}
+use Rattle.protocol.specs.inner.Loading.{stored, Mem, put, loaded, load, toldRow, LoadsNodes, sides, laySides}
 use Rattle.protocol.specs.Pieces.{Piece, cells, words, tree, _⊕_}
 use Rattle.protocol.specs.Types.{toPredicate, predicate, hasValue, layValue, layPredicate}
 use Rattle.protocol.proofs.PieceLaws.{tree-seven, put-join}

@@ -1,6 +1,5 @@
 pub mod Codes
 pub mod Fields
-pub mod FieldsRead
 pub mod Pieces
 pub mod Wholes
 pub mod Laying
@@ -19,6 +18,6 @@ pub mod Fetch
 pub mod Listing
 pub mod Rows
 pub mod Said
-pub mod Loading
 pub mod Decoding
 pub mod Encoding
+pub mod inner

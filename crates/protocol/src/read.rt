@@ -12,7 +12,7 @@ ghost use Rattle.varint.specs.Formats.{got};
 ghost use Rattle.varint.specs.Runs.{endOf, valuesOf};
 ghost use Rattle.varint.specs.Utf8.{utf8};
 ghost use Rattle.desc.specs.Layout.{width};
-ghost use Rattle.protocol.specs.Loading.{stored, laidAs, ReadsBare, Reads, ReadsText, ReadsEntry, BareEntry, RoomyEntry, layFinished, session, SessionRead};
+ghost use Rattle.protocol.specs.inner.Loading.{stored, laidAs, ReadsBare, Reads, ReadsText, ReadsEntry, BareEntry, RoomyEntry, layFinished, session, SessionRead};
 ghost use Rattle.protocol.specs.Wholes.{ended};
 ghost use Rattle.protocol.specs.declared.message.ControlOp.the-variants.{Create};
 ghost use Rattle.protocol.specs.Complete.{readComplete, layComplete};

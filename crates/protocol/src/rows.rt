@@ -10,7 +10,7 @@ ghost use Rattle.desc.specs.Reading.{desc};
 ghost use Rattle.protocol.specs.Fetch.{badFact, pair};
 ghost use Rattle.protocol.specs.Fields.{bit, descriptor, optionalOn};
 ghost use Rattle.protocol.specs.Ids.{idWidth, layId};
-ghost use Rattle.protocol.specs.Loading.{stored, LoadsFlat, LoadsCells, beside, LoadsNodes, descLeft, Within, load, loadRow, LoadsRows, toldRow, sides, laySides};
+ghost use Rattle.protocol.specs.inner.Loading.{stored, LoadsFlat, LoadsCells, beside, LoadsNodes, descLeft, Within, load, loadRow, LoadsRows, toldRow, sides, laySides};
 ghost use Rattle.protocol.specs.Pieces.{tree};
 ghost use Rattle.protocol.specs.Profile.{step, stepWidth, layStep};
 ghost use Rattle.protocol.specs.Rows.{widthOf};

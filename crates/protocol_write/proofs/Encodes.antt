@@ -20,8 +20,8 @@ use Rattle.desc.proofs.EmitWhole.{refused-of}
 use Rattle.protocol.specs.Encoding.{heldSaid, sent, encodeMessage}
 use Rattle.protocol.specs.Said.{Said, printSaid}
 use Rattle.protocol.specs.declared.message.Message.{Message}
-use Rattle.protocol_write.specs.Checking.{fine}
-use Rattle.protocol_write.specs.Writing.{putMessage, sizeOf}
+use Rattle.protocol_write.specs.inner.Checking.{fine}
+use Rattle.protocol_write.specs.inner.Writing.{putMessage, sizeOf}
 use Rattle.protocol_write.proofs.MessagePrints.{write-said}
 use Rattle.protocol_write.proofs.Printing.{Prints}
 use Rattle.protocol_write.proofs.Sends.{send-big, send-small, send-done}

@@ -43,7 +43,7 @@ use Rattle.protocol.specs.declared.message.Message.the-variants as Msg
 use Rattle.protocol.specs.declared.message.Mode.{Mode}
 use Rattle.protocol.specs.declared.message.RowKind.the-variants as K
 use Rattle.protocol.specs.declared.message.Span.{Span}
-use Rattle.protocol_write.specs.Writing.{putTwo, putCounted, putTagged, putStartup, putControl, putFinished, putReply, putPage, putDigest, putMessage}
+use Rattle.protocol_write.specs.inner.Writing.{putTwo, putCounted, putTagged, putStartup, putControl, putFinished, putReply, putPage, putDigest, putMessage}
 use Rattle.protocol_write.proofs.Printing.{took, held-same, Prints, prints-then, prints-number, prints-two, prints-byte, prints-flag, prints-fixed, fixed-same, prints-text}
 use Rattle.protocol_write.proofs.RowPrints.{claim-prints, step-prints, id-prints, pair-prints, type-prints, counted-prints}
 

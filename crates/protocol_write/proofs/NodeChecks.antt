@@ -27,7 +27,7 @@ use Rattle.desc.proofs.TableSound.{table-sound, some-size}
 use Rattle.protocol.specs.Fields.{yes}
 use Rattle.protocol.specs.declared.message.RowKind.the-variants.{Predicate}
 use Rattle.protocol.specs.Types.{after, typeLaid, typesLaid}
-use Rattle.protocol_write.specs.Checking.{laidAs, LaidAt, valueNames, rowNames}
+use Rattle.protocol_write.specs.inner.Checking.{laidAs, LaidAt, valueNames, rowNames}
 use Rattle.protocol_write.specs.declared.checks.Laid.the-variants as L
 
 -- what the size of a tree tells of the node after it

@@ -21,7 +21,7 @@ use Rattle.protocol.specs.Fields.{bit}
 use Rattle.protocol.specs.Rows.{widthOf}
 use Rattle.protocol.specs.RowsHeld.{heldTimes}
 use Rattle.protocol.specs.declared.message.RowKind.{RowKind}
-use Rattle.protocol_write.specs.Writing.{putByte, putFlag, putFixed, putTwo, putText, putAt, putRow, putRows}
+use Rattle.protocol_write.specs.inner.Writing.{putByte, putFlag, putFixed, putTwo, putText, putAt, putRow, putRows}
 
 -- what the memory holds, taken apart
 pub record Took {A B : Type 0} (h : Held A) (k : A → Held B) (b : B) : Type 0 where

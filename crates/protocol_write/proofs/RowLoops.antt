@@ -16,8 +16,8 @@ use Rattle.protocol.specs.Rows.{widthOf}
 use Rattle.protocol.specs.RowsHeld.{allGood}
 use Rattle.protocol.specs.declared.message.RowKind.{RowKind}
 use Rattle.protocol.specs.declared.message.RowKind.the-variants.{Claim, Id, Predicate, Step, Pair}
-use Rattle.protocol_write.specs.Checking.{rowNames, rowsNames}
-use Rattle.protocol_write.specs.Writing.{putRow, putRows}
+use Rattle.protocol_write.specs.inner.Checking.{rowNames, rowsNames}
+use Rattle.protocol_write.specs.inner.Writing.{putRow, putRows}
 
 pub width-some : (kind : RowKind) → 0 < widthOf kind
 width-some Claim = omega arith

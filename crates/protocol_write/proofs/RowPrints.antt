@@ -23,7 +23,7 @@ use Rattle.protocol.specs.Startup.{Claim, claim, heldClaim}
 use Rattle.protocol.specs.Types.{Predicate, predicate, heldPredicate}
 use Rattle.protocol.specs.declared.message.RowKind.{RowKind}
 use Rattle.protocol.specs.declared.message.RowKind.the-variants as K
-use Rattle.protocol_write.specs.Writing.{putFlag, putAt, putPair, putLabelled, putStep, putValue, putType, putRow, putCounted}
+use Rattle.protocol_write.specs.inner.Writing.{putFlag, putAt, putPair, putLabelled, putStep, putValue, putType, putRow, putCounted}
 use Rattle.protocol_write.proofs.Printing.{took, held-same, Prints, prints-then, prints-number, number-same, prints-past, prints-two, prints-flag, prints-wide, prints-text, prints-tree, times-length, prints-rows}
 
 module _ (limit : ℕ) (tx rs nd : List ℕ) where

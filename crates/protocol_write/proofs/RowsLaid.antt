@@ -20,7 +20,7 @@ use Rattle.protocol.specs.Rows.{widthOf}
 use Rattle.protocol.specs.Types.{after, typeLaid, typesLaid}
 use Rattle.protocol.specs.declared.message.RowKind.{RowKind}
 use Rattle.protocol.specs.declared.message.RowKind.the-variants.{Claim, Id, Predicate, Step, Pair}
-use Rattle.protocol_write.specs.Checking.{nodesFine, LaidAt, ValueLaid, RowLaid}
+use Rattle.protocol_write.specs.inner.Checking.{nodesFine, LaidAt, ValueLaid, RowLaid}
 use Rattle.protocol_write.proofs.NodeChecks.{Ends, table-end}
 use Rattle.protocol_write.proofs.Printing.{took}
 

@@ -35,7 +35,7 @@ use Rattle.protocol.specs.declared.message.Message.{Message}
 use Rattle.protocol.specs.declared.message.Message.the-variants as Msg
 use Rattle.protocol.specs.declared.message.RowKind.{RowKind}
 use Rattle.protocol.specs.declared.message.RowKind.the-variants as K
-use Rattle.protocol_write.specs.Checking.{rowGood, numbersFine, nodesFine, valueNames, rowNames, rowsNames, rowsFine, replyFine, startupFine, fetchFine, fine}
+use Rattle.protocol_write.specs.inner.Checking.{rowGood, numbersFine, nodesFine, valueNames, rowNames, rowsNames, rowsFine, replyFine, startupFine, fetchFine, fine}
 use Rattle.protocol_write.proofs.RowLoops.{no-names}
 
 -- Verdicts of what is taken out of memory one after the other

@@ -22,7 +22,7 @@ use Rattle.desc.specs.declared.write.Emitted.the-variants.{Done, Wrong}
 use Rattle.protocol.specs.Fields.{yes}
 use Rattle.protocol.specs.declared.message.RowKind.{RowKind}
 use Rattle.protocol.specs.declared.message.Span.{Span as Place}
-use Rattle.protocol_write.specs.Writing.{putFlag, putFixed, putText, putAt, putValue, putType, putCounted, putStartup}
+use Rattle.protocol_write.specs.inner.Writing.{putFlag, putFixed, putText, putAt, putValue, putType, putCounted, putStartup}
 
 pub fixed-stored : (w v : ℕ) (d o : List ℕ) (at a : ℕ) → o ≡ sets d at (putLe w v) → a ≡ declared (at + w)
     → record { out = o; place = a } ≡ putFixed w v (record { out = d; place = at })

@@ -1,2 +1,1 @@
-pub mod Checking
-pub mod Writing
+pub mod inner

@@ -13,7 +13,7 @@ ghost use Rattle.protocol.specs.Rows.{widthOf};
 ghost use Rattle.protocol.specs.RowsHeld.{allGood};
 ghost use Rattle.protocol.specs.Types.{after, typeNumbers, typeLaid, typesLaid};
 ghost use Rattle.protocol.specs.declared.message.RowKind.the-variants.{Predicate};
-ghost use Rattle.protocol_write.specs.Checking.{rowGood, numbersFine, laidAs, nodesFine, LaidAt, ValueLaid, RowLaid, valueNames, rowNames, rowsNames, rowsFine, startupFine, replyFine, fetchFine, fine};
+ghost use Rattle.protocol_write.specs.inner.Checking.{rowGood, numbersFine, laidAs, nodesFine, LaidAt, ValueLaid, RowLaid, valueNames, rowNames, rowsNames, rowsFine, startupFine, replyFine, fetchFine, fine};
 use desc::node;
 use desc::node::read_cell;
 use desc::write::Emitted;

@@ -6,7 +6,7 @@ ghost use mathlib.Core.Path.{_≡_};
 ghost use Prim.Native.Nat.{_≤_};
 ghost use Rattle.protocol.specs.Encoding.{encodeMessage};
 ghost use Rattle.protocol.specs.declared.message.Message.the-variants as Msg;
-ghost use Rattle.protocol_write.specs.Writing.{sizeOf};
+ghost use Rattle.protocol_write.specs.inner.Writing.{sizeOf};
 use checks::check_message;
 use desc::MAX_DEPTH;
 use desc::MAX_PAYLOAD;

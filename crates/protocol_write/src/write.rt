@@ -6,7 +6,7 @@ ghost use lib.ListN.{length};
 ghost use Rattle.desc.specs.Emitting.{putName};
 ghost use Rattle.desc.specs.Table.{table};
 ghost use Rattle.protocol.specs.Rows.{widthOf};
-ghost use Rattle.protocol_write.specs.Writing.{putByte, putFlag, putFixed, putTwo, putText, putAt, putPair, putLabelled, putStep, putValue, putType, putRow, putRows, putCounted, putTagged, putStartup, putControl, putFinished, putReply, putPage, putDigest, putMessage};
+ghost use Rattle.protocol_write.specs.inner.Writing.{putByte, putFlag, putFixed, putTwo, putText, putAt, putPair, putLabelled, putStep, putValue, putType, putRow, putRows, putCounted, putTagged, putStartup, putControl, putFinished, putReply, putPage, putDigest, putMessage};
 use crate::checks::few_rows;
 use crate::checks::number_at;
 use desc::node;

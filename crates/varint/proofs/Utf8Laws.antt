@@ -14,7 +14,7 @@ use Rattle.varint.specs.Choice.{pick}
 use Rattle.varint.specs.Stores.{part}
 use Rattle.varint.specs.Utf8.{In, Range, within, tail, Rule, rules, Lead, leadOf, lead, scan, utf8, utf8At}
 use Rattle.varint.specs.Utf8.Lead.{asks, bad}
-use Rattle.varint.specs.Utf8Steps.{second, fit, Passed, Char}
+use Rattle.varint.specs.inner.Utf8Steps.{second, fit, Passed, Char}
 use Rattle.varint.proofs.Basics.{test, clash, both, below}
 
 -- an octet in a range

@@ -11,5 +11,5 @@ pub mod Stores
 pub mod Texts
 pub mod Tried
 pub mod Utf8
-pub mod Utf8Steps
 pub mod Zigzag
+pub mod inner

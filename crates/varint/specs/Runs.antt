@@ -1,7 +1,7 @@
 -- Runs of varints: `count` of them, one behind the other, as far as none is refused. "5 ids: count, raw ids" is a count and such a run.
 use mathlib.Core.Path.{_≡_, refl}
 use mathlib.Core.List.{List, [], _∷_}
-use Prim.Native.Nat.{ℕ, zero, suc, _+_}
+use Prim.Native.Nat.{ℕ, zero, suc}
 use Rattle.varint.specs.Leb128.{readFrom, getU64}
 use Rattle.varint.specs.declared.error.Refusal.the-variants.{UnexpectedEof, VarintNotMinimal}
 use Rattle.varint.specs.declared.ReadU64.the-variants.{Value, Refused as NoValue}
@@ -17,11 +17,6 @@ valuesOf (suc n) s at = elim (getU64 s at) [ Value v next ↦ v ∷ valuesOf n s
 unfoldable pub endOf : ℕ → List ℕ → ℕ → Run
 endOf zero s at = Next at
 endOf (suc n) s at = elim (getU64 s at) [ Value v next ↦ endOf n s next | NoValue e ↦ Refused e ]
-
--- a varint of n bytes
-pub record Passed (s : List ℕ) (at n : ℕ) : Type 0 where
-  pub value : ℕ
-  pub is : getU64 s at ≡ Value value (at + n)
 
 example-values : valuesOf 2 (0xFF ∷ 5 ∷ 0xAC ∷ 2 ∷ 7 ∷ []) 1 ≡ 5 ∷ 300 ∷ []
 unfolding valuesOf getU64 readFrom

@@ -4,7 +4,7 @@ ghost use mathlib.Core.Path.{_≡_};
 ghost use Prim.Native.Nat.{_≤_, _<_};
 ghost use lib.ListN.{length, drop, getD};
 ghost use Rattle.varint.specs.Utf8.{utf8, utf8At, within, tail};
-ghost use Rattle.varint.specs.Utf8Steps.{second, Passed, Char};
+ghost use Rattle.varint.specs.inner.Utf8Steps.{second, Passed, Char};
 
 // Are there `len` bytes from place `from` on, and are they UTF-8?
 pub fn is_utf8(s: &[u8], from: usize, len: usize) -> bool

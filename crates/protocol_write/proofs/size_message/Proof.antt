@@ -1,6 +1,6 @@
 use mathlib.Core.Path.{ap}
 use Rattle.desc.specs.Emitting.{Pen}
-use Rattle.protocol_write.specs.Writing.{sizeOf}
+use Rattle.protocol_write.specs.inner.Writing.{sizeOf}
 use borrow.Author.Needs.{needs}
 use Rattle.protocol_write.proofs.size_message.Statement.{statement}
 use Rattle.protocol_write.proofs.size_message.Tie as tie

@@ -8,7 +8,8 @@ use borrow.Author.Tests.{not-true, not-false}
 use denote.Ref.{now}
 use lib.Dec.{eqb}
 use lib.ListN.{length}
-use Rattle.desc.specs.Emitting.{nowhere, putNumber, putWhere}
+use Rattle.desc.specs.Emitting.{putNumber, putWhere}
+use Rattle.desc.specs.inner.Emission.{nowhere}
 use Rattle.desc.specs.Table.{cell, kidsAt, closedAt, table}
 use Rattle.desc.proofs.EmitLaws.{kidsEmission, turn-done, turn-wrong, turn-outside, node-leaf, node-branch, emit-deep, emit-unfit, emit-leaf, emit-stopped, emit-closed}
 use Rattle.desc.proofs.GaugeLaws.{tag-gauged}

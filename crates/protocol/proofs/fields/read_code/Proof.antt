@@ -1,5 +1,5 @@
 use mathlib.Core.Path.{sym, _∙_, ap}
-use Rattle.protocol.specs.FieldsRead.{gotByte}
+use Rattle.protocol.specs.inner.FieldsRead.{gotByte}
 use borrow.Author.Needs.{needs}
 use Rattle.protocol.proofs.fields.read_code.Statement.{statement}
 use Rattle.protocol.proofs.fields.read_code.Tie as tie

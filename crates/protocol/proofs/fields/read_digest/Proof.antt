@@ -1,7 +1,7 @@
 use mathlib.Core.Path.{sym, _∙_, ap}
 use Prim.Native.Nat.{_-_}
 use borrow.Author.Tests.{eq-eqb, ne-eqb}
-use Rattle.protocol.specs.FieldsRead.{gotByte}
+use Rattle.protocol.specs.inner.FieldsRead.{gotByte}
 use borrow.Author.Needs.{needs}
 use Rattle.protocol.proofs.fields.read_digest.Statement.{statement}
 use Rattle.protocol.proofs.fields.read_digest.Tie as tie

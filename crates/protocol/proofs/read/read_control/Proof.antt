@@ -2,11 +2,11 @@ use mathlib.Core.Path.{refl, sym, _∙_, ap}
 use Prim.Native.Nat.{_-_}
 use borrow.Author.Tests.{lt-ltb}
 use Rattle.varint.specs.Stores.{part}
-use Rattle.protocol.specs.Loading.{laidAs}
+use Rattle.protocol.specs.inner.Loading.{laidAs}
 use Rattle.protocol.proofs.MessageReads.{text-refused, texts-read}
 use Rattle.protocol.proofs.TextsRead.{left-of, name-at, text-at}
 use Rattle.protocol.specs.Control.{readControl, layControl}
-use Rattle.protocol.specs.FieldsRead.{gotOp, gotFlag}
+use Rattle.protocol.specs.inner.FieldsRead.{gotOp, gotFlag}
 use Rattle.varint.specs.declared.error.Mismatch.the-variants as M
 use Rattle.protocol.proofs.FieldEnds.{flag-ends}
 use Rattle.protocol.proofs.MessageFields.{control-read}

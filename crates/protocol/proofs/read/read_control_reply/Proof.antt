@@ -1,7 +1,7 @@
 use mathlib.Core.Path.{sym, _∙_, ap}
 use Prim.Native.Nat.{_-_}
 use Rattle.protocol.specs.Reply.{readReply}
-use Rattle.protocol.specs.FieldsRead.{gotOp}
+use Rattle.protocol.specs.inner.FieldsRead.{gotOp}
 use Rattle.protocol.proofs.FieldEnds.{op-inside}
 use Rattle.protocol.proofs.MessageFields.{reply-on, finished-same}
 use Rattle.protocol.proofs.MessageReads.{text-refused, bare-text, finished-bare, removed-bare}

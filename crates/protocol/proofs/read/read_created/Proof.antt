@@ -1,7 +1,7 @@
 use mathlib.Core.Path.{refl, sym, _∙_, ap}
 use Prim.Native.Nat.{_-_}
 use borrow.Author.Tests.{lt-ltb}
-use Rattle.protocol.specs.Loading.{laidAs}
+use Rattle.protocol.specs.inner.Loading.{laidAs}
 use Rattle.protocol.proofs.MessageReads.{text-refused, text-read}
 use Rattle.protocol.proofs.TextsRead.{left-of, name-at}
 use Rattle.protocol.specs.Reply.{layReply}

@@ -1,10 +1,10 @@
 use mathlib.Core.Path.{refl, sym, _∙_, ap}
 use Prim.Native.Nat.{_-_}
-use Rattle.protocol.specs.Loading.{laidAs}
+use Rattle.protocol.specs.inner.Loading.{laidAs}
 use Rattle.protocol.proofs.MessageReads.{text-refused, text-read}
 use Rattle.protocol.proofs.TextsRead.{left-of, text-at}
 use Rattle.protocol.specs.Error.{readError, layError}
-use Rattle.protocol.specs.FieldsRead.{gotCode}
+use Rattle.protocol.specs.inner.FieldsRead.{gotCode}
 use Rattle.protocol.proofs.MessageFields.{error-read}
 use borrow.Author.Needs.{needs}
 use Rattle.protocol.proofs.read.read_error.Statement.{statement}

@@ -3,10 +3,10 @@ use Prim.Native.Nat.{_-_}
 use native.Mathlib.Omega.{arith}
 use borrow.Author.Tests.{lt-ltb, le-ltb}
 use Rattle.varint.proofs.FormatParts.{num-inside}
-use Rattle.protocol.specs.Loading.{laidAs, Within}
+use Rattle.protocol.specs.inner.Loading.{laidAs, Within}
 use Rattle.protocol.proofs.RowMessages.{reads-refused, rows-read}
 use Rattle.protocol.specs.Fetch.{readFetch, layFetch}
-use Rattle.protocol.specs.FieldsRead.{gotDigest}
+use Rattle.protocol.specs.inner.FieldsRead.{gotDigest}
 use Rattle.protocol.proofs.RowMessages.{pairs-went, no-pairs}
 use Rattle.protocol.proofs.MessageFields.{fetch-read}
 use borrow.Author.Needs.{needs}

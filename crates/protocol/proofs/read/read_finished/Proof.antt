@@ -1,10 +1,10 @@
-use Rattle.protocol.specs.Loading.{laidAs, layFinished}
+use Rattle.protocol.specs.inner.Loading.{laidAs, layFinished}
 use Rattle.protocol.proofs.MessageFields.{finished-read}
 use mathlib.Core.Path.{sym, _∙_, ap}
 use Prim.Native.Nat.{_-_}
 use borrow.Author.Tests.{lt-ltb}
 use Rattle.protocol.proofs.MessageReads.{bare-refused, bare-read}
-use Rattle.protocol.specs.FieldsRead.{gotFlag}
+use Rattle.protocol.specs.inner.FieldsRead.{gotFlag}
 use Rattle.protocol.specs.Reply.{layReply}
 use borrow.Author.Needs.{needs}
 use Rattle.protocol.proofs.read.read_finished.Statement.{statement}

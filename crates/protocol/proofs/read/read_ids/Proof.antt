@@ -1,6 +1,6 @@
 use mathlib.Core.Path.{refl, sym, _∙_, ap}
 use Rattle.protocol.specs.Ids.{readIds, layIds}
-use Rattle.protocol.specs.Loading.{laidAs}
+use Rattle.protocol.specs.inner.Loading.{laidAs}
 use Rattle.protocol.proofs.MessageFields.{ids-read}
 use Rattle.protocol.proofs.RowMessages.{reads-refused, rows-read, ids-went, no-ids}
 use borrow.Author.Needs.{needs}

@@ -3,7 +3,7 @@ use Prim.Native.Nat.{_-_}
 use native.Mathlib.Omega.{arith}
 use borrow.Author.Tests.{lt-ltb, le-ltb}
 use Rattle.varint.proofs.FormatParts.{num-inside}
-use Rattle.protocol.specs.Loading.{laidAs, Within}
+use Rattle.protocol.specs.inner.Loading.{laidAs, Within}
 use Rattle.protocol.proofs.RowMessages.{reads-refused, rows-read}
 use Rattle.protocol.specs.Profile.{readProfile, layProfile}
 use Rattle.protocol.proofs.RowMessages.{steps-went, no-steps}

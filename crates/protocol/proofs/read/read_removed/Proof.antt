@@ -1,4 +1,4 @@
-use Rattle.protocol.specs.Loading.{laidAs}
+use Rattle.protocol.specs.inner.Loading.{laidAs}
 use Rattle.protocol.proofs.MessageFields.{removed-read}
 use mathlib.Core.Path.{ap}
 use Prim.Native.Nat.{_-_}

@@ -2,8 +2,8 @@ use mathlib.Core.Path.{sym, _∙_, ap}
 use native.Mathlib.Omega.{arith}
 use borrow.Author.Tests.{lt-ltb}
 use Rattle.varint.proofs.FormatParts.{num-inside}
-use Rattle.protocol.specs.FieldsRead.{gotMode}
-use Rattle.protocol.specs.Loading.{Within}
+use Rattle.protocol.specs.inner.FieldsRead.{gotMode}
+use Rattle.protocol.specs.inner.Loading.{Within}
 use Rattle.protocol.proofs.MessageFields.{session-read}
 use Rattle.protocol.proofs.RowMessages.{claims-went, no-claims}
 use Rattle.protocol.proofs.FieldEnds.{mode-inside}

@@ -2,7 +2,7 @@ use mathlib.Core.Path.{refl, sym, _∙_, ap}
 use Prim.Native.Nat.{_-_}
 use native.Mathlib.Omega.{arith}
 use Rattle.varint.proofs.FormatParts.{num-inside}
-use Rattle.protocol.specs.Loading.{laidAs, Within}
+use Rattle.protocol.specs.inner.Loading.{laidAs, Within}
 use Rattle.protocol.proofs.RowMessages.{reads-refused, rows-read}
 use Rattle.protocol.specs.Types.{readTypes, layTypes}
 use Rattle.protocol.proofs.RowMessages.{types-went, no-types}

@@ -1,5 +1,5 @@
 use Rattle.varint.specs.Formats.{varint}
-use Rattle.protocol.specs.Loading.{loadRow}
+use Rattle.protocol.specs.inner.Loading.{loadRow}
 use Rattle.protocol.specs.Fetch.{pair}
 use Rattle.protocol.specs.Ids.{layId}
 use Rattle.protocol.specs.Profile.{step, layStep}

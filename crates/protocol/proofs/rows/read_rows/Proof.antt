@@ -1,6 +1,6 @@
 use borrow.Author.Needs.{needs}
 use native.Mathlib.Omega.{arith}
-use Rattle.protocol.specs.Loading.{toldRow}
+use Rattle.protocol.specs.inner.Loading.{toldRow}
 use Rattle.protocol.proofs.RowsLoop.{Going, going-start, going-done, going-failed, going-step, took-one}
 use Rattle.protocol.proofs.rows.read_rows.Statement.{statement}
 use Rattle.protocol.proofs.rows.read_rows.Tie as tie

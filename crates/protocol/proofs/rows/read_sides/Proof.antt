@@ -1,8 +1,8 @@
 use mathlib.Core.Path.{sym, _∙_, ap}
 use native.Mathlib.Omega.{arith}
-use Rattle.protocol.specs.FieldsRead.{gotFlag}
+use Rattle.protocol.specs.inner.FieldsRead.{gotFlag}
 use Rattle.protocol.specs.Pieces.{tree}
-use Rattle.protocol.specs.Loading.{load, toldRow, Within}
+use Rattle.protocol.specs.inner.Loading.{load, toldRow, Within}
 use Rattle.protocol.proofs.FieldEnds.{wide-flag-inside}
 use Rattle.protocol.proofs.TypeLoads.{nodes-went, nodes-refused, sides-read}
 use borrow.Author.Needs.{needs}

@@ -1,6 +1,6 @@
 use mathlib.Core.Path.{refl, sym, _∙_, ap}
 use native.Mathlib.Omega.{arith}
-use Rattle.protocol.specs.FieldsRead.{gotFlag}
+use Rattle.protocol.specs.inner.FieldsRead.{gotFlag}
 use Rattle.protocol.proofs.RowLoads.{flat-refused, flat-read}
 use Rattle.protocol.proofs.RowReads.{step-read}
 use Rattle.protocol.proofs.TextsRead.{left-of, name-at}

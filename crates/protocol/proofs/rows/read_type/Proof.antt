@@ -1,7 +1,7 @@
 use mathlib.Core.Path.{sym, _∙_}
 use native.Mathlib.Omega.{arith}
 use borrow.Author.Tests.{le-leb, lt-leb}
-use Rattle.protocol.specs.Loading.{load, toldRow}
+use Rattle.protocol.specs.inner.Loading.{load, toldRow}
 use Rattle.varint.proofs.FormatParts.{num-inside}
 use Rattle.protocol.proofs.TextsRead.{left-of, name-at}
 use Rattle.protocol.proofs.TypeLoads.{type-read}

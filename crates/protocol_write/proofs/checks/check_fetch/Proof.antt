@@ -1,6 +1,6 @@
 use borrow.Author.Tests.{lt-ltb, le-ltb}
 use Rattle.desc.specs.Emitting.{thenNames}
-use Rattle.protocol_write.specs.Checking.{fetchFine}
+use Rattle.protocol_write.specs.inner.Checking.{fetchFine}
 use borrow.Author.Needs.{needs}
 use Rattle.protocol_write.proofs.checks.check_fetch.Statement.{statement}
 use Rattle.protocol_write.proofs.checks.check_fetch.Tie as tie

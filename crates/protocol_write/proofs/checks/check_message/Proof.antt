@@ -1,4 +1,4 @@
-use Rattle.protocol_write.specs.Checking.{fine}
+use Rattle.protocol_write.specs.inner.Checking.{fine}
 use borrow.Author.Needs.{needs}
 use Rattle.protocol_write.proofs.checks.check_message.Statement.{statement}
 use Rattle.protocol_write.proofs.checks.check_message.Tie as tie

@@ -1,6 +1,6 @@
 use mathlib.Core.Path.{refl, sym}
 use Rattle.protocol.specs.declared.message.RowKind.the-variants.{Id, Pair}
-use Rattle.protocol_write.specs.Checking.{rowNames}
+use Rattle.protocol_write.specs.inner.Checking.{rowNames}
 use Rattle.protocol_write.proofs.RowLoops.{no-names}
 use borrow.Author.Needs.{needs}
 use Rattle.protocol_write.proofs.checks.check_named.Statement.{statement}

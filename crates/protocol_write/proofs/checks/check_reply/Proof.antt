@@ -1,4 +1,4 @@
-use Rattle.protocol_write.specs.Checking.{replyFine}
+use Rattle.protocol_write.specs.inner.Checking.{replyFine}
 use borrow.Author.Needs.{needs}
 use Rattle.protocol_write.proofs.checks.check_reply.Statement.{statement}
 use Rattle.protocol_write.proofs.checks.check_reply.Tie as tie

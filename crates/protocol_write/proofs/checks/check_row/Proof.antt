@@ -1,4 +1,4 @@
-use Rattle.protocol_write.specs.Checking.{rowNames}
+use Rattle.protocol_write.specs.inner.Checking.{rowNames}
 use borrow.Author.Needs.{needs}
 use Rattle.protocol_write.proofs.checks.check_row.Statement.{statement}
 use Rattle.protocol_write.proofs.checks.check_row.Tie as tie

@@ -1,7 +1,7 @@
 use mathlib.Core.Path.{sym, _∙_}
 use borrow.Author.Tests.{ltb-false, not-true, not-false}
 use Rattle.desc.specs.Emitting.{thenNames}
-use Rattle.protocol_write.specs.Checking.{rowsFine}
+use Rattle.protocol_write.specs.inner.Checking.{rowsFine}
 use borrow.Author.Needs.{needs}
 use Rattle.protocol_write.proofs.checks.check_rows.Statement.{statement}
 use Rattle.protocol_write.proofs.checks.check_rows.Tie as tie

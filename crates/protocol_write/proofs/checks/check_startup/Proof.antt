@@ -1,4 +1,4 @@
-use Rattle.protocol_write.specs.Checking.{startupFine}
+use Rattle.protocol_write.specs.inner.Checking.{startupFine}
 use borrow.Author.Needs.{needs}
 use Rattle.protocol_write.proofs.checks.check_startup.Statement.{statement}
 use Rattle.protocol_write.proofs.checks.check_startup.Tie as tie

@@ -4,7 +4,7 @@ use lib.ListN.{length}
 use Rattle.protocol.specs.Rows.{widthOf}
 use native.Mathlib.Omega.{arith}
 use borrow.Author.Needs.{needs}
-use Rattle.protocol_write.specs.Checking.{rowsNames}
+use Rattle.protocol_write.specs.inner.Checking.{rowsNames}
 use Rattle.protocol_write.proofs.RowLoops.{next-row, row-named, row-refused, names-end}
 use Rattle.protocol_write.proofs.RowsLaid.{RowsLaid, next-laid, rows-laid}
 use Rattle.protocol_write.proofs.checks.check_texts.Statement.{statement}

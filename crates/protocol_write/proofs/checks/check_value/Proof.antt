@@ -1,5 +1,5 @@
 use borrow.Author.Tests.{eq-eqb, ne-eqb}
-use Rattle.protocol_write.specs.Checking.{valueNames}
+use Rattle.protocol_write.specs.inner.Checking.{valueNames}
 use borrow.Author.Needs.{needs}
 use Rattle.protocol_write.proofs.checks.check_value.Statement.{statement}
 use Rattle.protocol_write.proofs.checks.check_value.Tie as tie

@@ -1,4 +1,4 @@
-use Rattle.protocol_write.specs.Checking.{nodesFine}
+use Rattle.protocol_write.specs.inner.Checking.{nodesFine}
 use borrow.Author.Needs.{needs}
 use Rattle.protocol_write.proofs.checks.nodes_laid.Statement.{statement}
 use Rattle.protocol_write.proofs.checks.nodes_laid.Tie as tie

@@ -1,4 +1,4 @@
-use Rattle.protocol_write.specs.Checking.{numbersFine}
+use Rattle.protocol_write.specs.inner.Checking.{numbersFine}
 use borrow.Author.Needs.{needs}
 use Rattle.protocol_write.proofs.checks.numbers_good.Statement.{statement}
 use Rattle.protocol_write.proofs.checks.numbers_good.Tie as tie

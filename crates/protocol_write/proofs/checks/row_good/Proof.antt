@@ -1,4 +1,4 @@
-use Rattle.protocol_write.specs.Checking.{rowGood}
+use Rattle.protocol_write.specs.inner.Checking.{rowGood}
 use borrow.Author.Needs.{needs}
 use Rattle.protocol_write.proofs.checks.row_good.Statement.{statement}
 use Rattle.protocol_write.proofs.checks.row_good.Tie as tie

@@ -6,7 +6,7 @@ use Rattle.protocol.specs.Rows.{widthOf}
 use Rattle.protocol.specs.RowsHeld.{allGood}
 use native.Mathlib.Omega.{arith}
 use borrow.Author.Needs.{needs}
-use Rattle.protocol_write.specs.Checking.{rowGood}
+use Rattle.protocol_write.specs.inner.Checking.{rowGood}
 use Rattle.protocol_write.proofs.RowLoops.{next-row, row-good, row-bad, good-end}
 use Rattle.protocol_write.proofs.checks.rows_good.Statement.{statement}
 use Rattle.protocol_write.proofs.checks.rows_good.Tie as tie

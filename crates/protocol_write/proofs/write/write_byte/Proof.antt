@@ -1,4 +1,4 @@
-use Rattle.protocol_write.specs.Writing.{putByte}
+use Rattle.protocol_write.specs.inner.Writing.{putByte}
 use Rattle.desc.specs.Emitting.{putBytes}
 use borrow.Author.Needs.{needs}
 use Rattle.protocol_write.proofs.write.write_byte.Statement.{statement}

@@ -1,4 +1,4 @@
-use Rattle.protocol_write.specs.Writing.{putControl}
+use Rattle.protocol_write.specs.inner.Writing.{putControl}
 use borrow.Author.Needs.{needs}
 use Rattle.protocol_write.proofs.write.write_control.Statement.{statement}
 use Rattle.protocol_write.proofs.write.write_control.Tie as tie

@@ -1,6 +1,6 @@
 use mathlib.Core.Path.{sym, _∙_}
 use borrow.Author.Tests.{ltb-false}
-use Rattle.protocol_write.specs.Writing.{putCounted}
+use Rattle.protocol_write.specs.inner.Writing.{putCounted}
 use borrow.Author.Needs.{needs}
 use Rattle.protocol_write.proofs.write.write_counted.Statement.{statement}
 use Rattle.protocol_write.proofs.write.write_counted.Tie as tie

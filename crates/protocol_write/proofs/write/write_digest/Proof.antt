@@ -1,4 +1,4 @@
-use Rattle.protocol_write.specs.Writing.{putDigest}
+use Rattle.protocol_write.specs.inner.Writing.{putDigest}
 use borrow.Author.Needs.{needs}
 use Rattle.protocol_write.proofs.write.write_digest.Statement.{statement}
 use Rattle.protocol_write.proofs.write.write_digest.Tie as tie

@@ -1,4 +1,4 @@
-use Rattle.protocol_write.specs.Writing.{putFinished}
+use Rattle.protocol_write.specs.inner.Writing.{putFinished}
 use borrow.Author.Needs.{needs}
 use Rattle.protocol_write.proofs.write.write_finished.Statement.{statement}
 use Rattle.protocol_write.proofs.write.write_finished.Tie as tie

@@ -1,4 +1,4 @@
-use Rattle.protocol_write.specs.Writing.{putFlag}
+use Rattle.protocol_write.specs.inner.Writing.{putFlag}
 use borrow.Author.Needs.{needs}
 use Rattle.protocol_write.proofs.write.write_flag.Statement.{statement}
 use Rattle.protocol_write.proofs.write.write_flag.Tie as tie

@@ -1,5 +1,5 @@
 use native.Mathlib.Nat.{add-zero}
-use Rattle.protocol_write.specs.Writing.{putLabelled}
+use Rattle.protocol_write.specs.inner.Writing.{putLabelled}
 use borrow.Author.Needs.{needs}
 use Rattle.protocol_write.proofs.write.write_labelled.Statement.{statement}
 use Rattle.protocol_write.proofs.write.write_labelled.Tie as tie

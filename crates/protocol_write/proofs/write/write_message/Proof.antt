@@ -1,4 +1,4 @@
-use Rattle.protocol_write.specs.Writing.{putMessage}
+use Rattle.protocol_write.specs.inner.Writing.{putMessage}
 use Rattle.protocol_write.proofs.WriteSteps.{counted-after, startup-mode}
 use borrow.Author.Needs.{needs}
 use Rattle.protocol_write.proofs.write.write_message.Statement.{statement}

@@ -1,4 +1,4 @@
-use Rattle.protocol_write.specs.Writing.{putPage}
+use Rattle.protocol_write.specs.inner.Writing.{putPage}
 use borrow.Author.Needs.{needs}
 use Rattle.protocol_write.proofs.write.write_page.Statement.{statement}
 use Rattle.protocol_write.proofs.write.write_page.Tie as tie

@@ -1,4 +1,4 @@
-use Rattle.protocol_write.specs.Writing.{putTwo, putPair}
+use Rattle.protocol_write.specs.inner.Writing.{putTwo, putPair}
 use borrow.Author.Needs.{needs}
 use Rattle.protocol_write.proofs.write.write_pair.Statement.{statement}
 use Rattle.protocol_write.proofs.write.write_pair.Tie as tie

@@ -1,4 +1,4 @@
-use Rattle.protocol_write.specs.Writing.{putReply}
+use Rattle.protocol_write.specs.inner.Writing.{putReply}
 use borrow.Author.Needs.{needs}
 use Rattle.protocol_write.proofs.write.write_reply.Statement.{statement}
 use Rattle.protocol_write.proofs.write.write_reply.Tie as tie

@@ -1,5 +1,5 @@
 use native.Mathlib.Nat.{add-zero}
-use Rattle.protocol_write.specs.Writing.{putRow}
+use Rattle.protocol_write.specs.inner.Writing.{putRow}
 use borrow.Author.Needs.{needs}
 use Rattle.protocol_write.proofs.write.write_row.Statement.{statement}
 use Rattle.protocol_write.proofs.write.write_row.Tie as tie

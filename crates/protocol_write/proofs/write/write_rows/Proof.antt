@@ -4,7 +4,7 @@ use lib.ListN.{length}
 use Rattle.protocol.specs.Rows.{widthOf}
 use native.Mathlib.Omega.{arith}
 use borrow.Author.Needs.{needs}
-use Rattle.protocol_write.specs.Writing.{putRows}
+use Rattle.protocol_write.specs.inner.Writing.{putRows}
 use Rattle.protocol_write.proofs.RowLoops.{next-row, put-turn, put-end}
 use Rattle.protocol_write.proofs.write.write_rows.Statement.{statement}
 use Rattle.protocol_write.proofs.write.write_rows.Tie as tie

@@ -1,4 +1,4 @@
-use Rattle.protocol_write.specs.Writing.{putStartup}
+use Rattle.protocol_write.specs.inner.Writing.{putStartup}
 use borrow.Author.Needs.{needs}
 use Rattle.protocol_write.proofs.write.write_startup.Statement.{statement}
 use Rattle.protocol_write.proofs.write.write_startup.Tie as tie

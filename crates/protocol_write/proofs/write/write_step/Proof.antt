@@ -1,4 +1,4 @@
-use Rattle.protocol_write.specs.Writing.{putStep}
+use Rattle.protocol_write.specs.inner.Writing.{putStep}
 use borrow.Author.Needs.{needs}
 use Rattle.protocol_write.proofs.write.write_step.Statement.{statement}
 use Rattle.protocol_write.proofs.write.write_step.Tie as tie

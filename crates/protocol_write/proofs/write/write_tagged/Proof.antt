@@ -1,4 +1,4 @@
-use Rattle.protocol_write.specs.Writing.{putTagged}
+use Rattle.protocol_write.specs.inner.Writing.{putTagged}
 use borrow.Author.Needs.{needs}
 use Rattle.protocol_write.proofs.write.write_tagged.Statement.{statement}
 use Rattle.protocol_write.proofs.write.write_tagged.Tie as tie

@@ -1,4 +1,4 @@
-use Rattle.protocol_write.specs.Writing.{putText}
+use Rattle.protocol_write.specs.inner.Writing.{putText}
 use borrow.Author.Needs.{needs}
 use Rattle.protocol_write.proofs.write.write_text.Statement.{statement}
 use Rattle.protocol_write.proofs.write.write_text.Tie as tie

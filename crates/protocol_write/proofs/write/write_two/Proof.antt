@@ -1,4 +1,4 @@
-use Rattle.protocol_write.specs.Writing.{putTwo}
+use Rattle.protocol_write.specs.inner.Writing.{putTwo}
 use borrow.Author.Needs.{needs}
 use Rattle.protocol_write.proofs.write.write_two.Statement.{statement}
 use Rattle.protocol_write.proofs.write.write_two.Tie as tie

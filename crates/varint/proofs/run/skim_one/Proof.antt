@@ -8,7 +8,7 @@ use lib.ListN.{length, getD, drop}
 use mathlib.Core.Logic.{⊎-elim}
 use Rattle.varint.specs.declared.ReadU64.the-variants.{Value}
 use Rattle.varint.specs.Leb128.{getU64, readFrom}
-use Rattle.varint.specs.Runs.{Passed}
+use Rattle.varint.specs.inner.RunSteps.{Passed}
 use Rattle.varint.proofs.ReadLaws.{last-first, last-more, more, read-at}
 use Rattle.varint.proofs.run.skim_one.Statement.{statement}
 use Rattle.varint.proofs.run.skim_one.Tie as tie

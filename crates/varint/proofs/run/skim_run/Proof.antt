@@ -5,7 +5,8 @@ use mathlib.Core.Logic.{⊎-elim}
 use mathlib.Core.Path.{_≡_, refl, sym, _∙_}
 use mathlib.Core.List.{List}
 use Rattle.varint.specs.Leb128.{getU64}
-use Rattle.varint.specs.Runs.{endOf, Passed}
+use Rattle.varint.specs.Runs.{endOf}
+use Rattle.varint.specs.inner.RunSteps.{Passed}
 use Rattle.varint.specs.declared.ReadU64.the-variants.{Value}
 use Rattle.varint.proofs.FormatParts.{num-inside}
 use Rattle.varint.proofs.RunLaws.{end-none, end-more, end-bad}

@@ -7,7 +7,7 @@ use mathlib.Core.List.{List}
 use lib.Dec.{ltb}
 use lib.ListN.{length, getD}
 use borrow.Author.Tests.{ltb-true}
-use Rattle.varint.specs.Utf8Steps.{Passed}
+use Rattle.varint.specs.inner.Utf8Steps.{Passed}
 use Rattle.varint.proofs.Basics.{both}
 use Rattle.varint.proofs.Utf8Laws.{passed-none, passed-on, passed-to, passed-ascii}
 use Rattle.varint.proofs.utf8.all_below.Statement.{statement}

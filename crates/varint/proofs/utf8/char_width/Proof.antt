@@ -6,7 +6,7 @@ use mathlib.Core.List.{List, [], _∷_}
 use lib.ListN.{length, getD, drop}
 use mathlib.Core.Bool.{_&&_}
 use Rattle.varint.specs.Utf8.{In, tail}
-use Rattle.varint.specs.Utf8Steps.{second, fit}
+use Rattle.varint.specs.inner.Utf8Steps.{second, fit}
 use Rattle.varint.proofs.Utf8Laws.{Begun, lead-none, lead-2, lead-3, lead-4, fit-1, fit-2, fit-3, char-bad, char-no, char-short, char-yes}
 use borrow.Author.Needs.{needs}
 use Rattle.varint.proofs.utf8.char_width.Statement.{statement}

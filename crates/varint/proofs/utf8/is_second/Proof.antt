@@ -1,7 +1,7 @@
 -- By the first byte.
 use mathlib.Core.Path.{_∙_}
 use borrow.Author.Tests.{eq-eqb, ne-eqb}
-use Rattle.varint.specs.Utf8Steps.{second}
+use Rattle.varint.specs.inner.Utf8Steps.{second}
 use borrow.Author.Needs.{needs}
 use Rattle.varint.proofs.utf8.is_second.Statement.{statement}
 use Rattle.varint.proofs.utf8.is_second.Tie as tie

@@ -6,7 +6,7 @@ use mathlib.Core.Path.{_≡_, ap}
 use mathlib.Core.List.{List}
 use lib.ListN.{length, getD}
 use borrow.Author.Tests.{not-false}
-use Rattle.varint.specs.Utf8Steps.{Passed}
+use Rattle.varint.specs.inner.Utf8Steps.{Passed}
 use Rattle.varint.proofs.Basics.{below}
 use Rattle.varint.proofs.Utf8Laws.{passed-none, passed-on, passed-ascii}
 use borrow.Author.Needs.{needs}

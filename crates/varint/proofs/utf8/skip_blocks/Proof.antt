@@ -3,7 +3,7 @@ use Prim.Native.Nat.{_-_}
 use native.Mathlib.Omega.{arith}
 use lib.ListN.{length}
 use borrow.Author.Tests.{not-false}
-use Rattle.varint.specs.Utf8Steps.{Passed}
+use Rattle.varint.specs.inner.Utf8Steps.{Passed}
 use Rattle.varint.proofs.Utf8Laws.{passed-none, passed-on}
 use borrow.Author.Needs.{needs}
 use Rattle.varint.proofs.utf8.skip_blocks.Statement.{statement}

@@ -3,7 +3,7 @@ use Prim.Native.Nat.{_+_, _-_, _<_}
 use native.Mathlib.Omega.{arith}
 use mathlib.Core.Path.{sym, _∙_}
 use lib.ListN.{length}
-use Rattle.varint.specs.Utf8Steps.{Passed}
+use Rattle.varint.specs.inner.Utf8Steps.{Passed}
 use Rattle.varint.proofs.Utf8Laws.{utf8-end, passed-none, passed-on}
 use borrow.Author.Needs.{needs}
 use Rattle.varint.proofs.utf8.valid_from.Statement.{statement}
