@@ -1,5 +1,5 @@
 -- "Node, seven numbers: tag, name start, name length, discriminant, fact's predicate, child count, end (index past its last descendant;
--- indexes count whole nodes from 0). Nodes stand in reading order, parent first."
+-- indexes count whole nodes from 0). Nodes stand in reading order, parent first".
 use mathlib.Core.Path.{_≡_, refl}
 use mathlib.Core.List.{List, [], _∷_, _++_}
 use Prim.Native.Nat.{ℕ, _+_}

@@ -18,24 +18,27 @@ use Rattle.desc.specs.Trees.{Tree, leaf, branch, Kids, none, more}
 abbrev pub cell : List ℕ → ℕ → ℕ → ℕ
 cell nd n c = getD nd (n * width + c) 0
 
--- Is node n there, and laid out as a node may be below a parent with this tag (0: it is a root)? A root's name is 0, 0; a discriminant has an alternative
--- alone, a predicate a fact alone; what has no children ends behind itself.
+-- Node n below a parent with this tag, 0 for none. "a root's name is 0, 0"; a part's may be any
 unfoldable pub rootName : List ℕ → ℕ → ℕ → Bool
 rootName nd n parent = pick (eqb parent 0) (eqb (cell nd n startAt) 0 && eqb (cell nd n lenAt) 0) true
 
+-- an alternative has a discriminant of 32 bits; elsewhere the number is unused: "Unused numbers are 0"
 unfoldable pub discriminantFits : List ℕ → ℕ → ℕ → Bool
 discriminantFits nd n parent = pick (eqb parent 4) (leb (cell nd n discriminantAt) 0xFFFFFFFF) (eqb (cell nd n discriminantAt) 0)
 
+-- so a fact's predicate
 unfoldable pub predicateFits : List ℕ → ℕ → Bool
 predicateFits nd n = pick (eqb (cell nd n tagAt) 2) (leb (cell nd n predicateAt) 0xFFFFFFFF) (eqb (cell nd n predicateAt) 0)
 
--- a record or a union: it has children, and its end is told by them
+-- a record or a union: its children tell where it ends, so that `table` tests its end
 unfoldable pub isBranch : List ℕ → ℕ → Bool
 isBranch nd n = eqb (cell nd n tagAt) 3 || eqb (cell nd n tagAt) 4
 
+-- any other type has no children, and ends behind itself
 unfoldable pub leafFits : List ℕ → ℕ → Bool
 leafFits nd n = eqb (cell nd n countAt) 0 && eqb (cell nd n endAt) (n + 1)
 
+-- Is node n there whole, and laid out as a node may be below such a parent? Where a record or a union ends is not tested here.
 unfoldable pub nodeFits : List ℕ → ℕ → ℕ → Bool
 nodeFits nd n parent =
     ltb n (length nd / width) && leb (cell nd n tagAt) 5 && rootName nd n parent && discriminantFits nd n parent && predicateFits nd n

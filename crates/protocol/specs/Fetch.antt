@@ -37,7 +37,7 @@ toFetch c = record { digest = c .0; ids = c .1 }
 abbrev pub fromFetch : Fetch → Digest × List ℕ
 fromFetch m = (m .digest, m .ids)
 
--- "fetch: flag missing 1, other 13(n)"
+-- "digest if 1"; "a missing fetch flag is 1", and one that is neither 0 nor 1 is "13 BadDigestFlag(n)"
 abbrev pub digestOn : ℕ → List ℕ → ℕ → Got Digest
 digestOn b s at = pick (eqb b 0) (got Absent at) (pick (eqb b 1) (then (varint .read s at) (λ d q. got (Present d) q)) (bad (BadDigestFlag b)))
 

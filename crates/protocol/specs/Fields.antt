@@ -80,7 +80,7 @@ opGot MC.Unknown q = bad (TypeMismatch M.ControlOp)
 abbrev pub controlOp : Format ControlOp
 controlOp = record { read = λ s at. then (byte (TypeMismatch M.ControlOp) .read s at) (λ b q. opGot (opOf b) q); print = λ o. opByte o ∷ [] }
 
--- "Unused numbers are 0": a flag as a number
+-- "virtual 0 or 1", "full scan 0 or 1": a flag as a number
 abbrev pub bit : Bool → ℕ
 bit true = 1
 bit false = 0

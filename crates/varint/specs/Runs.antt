@@ -1,4 +1,4 @@
--- Runs of varints: `count` of them, one behind the other, as far as none is refused. "5 ids: count, raw ids" is a count and such a run.
+-- Runs of varints, one behind the other, read up to the first that is refused. "5 ids: count, raw ids; bytes after ignored." has such a run behind its count.
 use mathlib.Core.Path.{_≡_, refl}
 use mathlib.Core.List.{List, [], _∷_}
 use Prim.Native.Nat.{ℕ, zero, suc}
