@@ -15,10 +15,14 @@ use Rattle.varint.specs.declared.error.Buffer.the-variants.{Text, Rows, Nodes}
 use Rattle.varint.specs.declared.error.Mismatch.the-variants as M
 use Rattle.varint.specs.declared.error.Refusal.{Refusal}
 use Rattle.varint.specs.declared.error.Refusal.the-variants.{TooSmall, TypeMismatch}
+use Rattle.desc.specs.Layout.{texts, placed, rows}
+use Rattle.desc.specs.Reading.{headAt, desc}
+use Rattle.desc.specs.Trees.{size}
 use Rattle.protocol.specs.Laying.{Laid}
 use Rattle.protocol.specs.Pieces.{many}
 use Rattle.protocol.specs.Profile.{readProfile, layProfile}
 use Rattle.protocol.specs.Control.{readControl, layControl}
+use Rattle.protocol.specs.Types.{readTypes, layTypes}
 use Rattle.protocol.specs.Said.{Said, readEntry, readMessage, lay}
 use Rattle.protocol.specs.declared.message.Answer.{Answer}
 use Rattle.protocol.specs.declared.message.Answer.the-variants.{Accepted, Refused}
@@ -76,3 +80,19 @@ example-short = refl
 example-first : decodeMessage 67108864 64 9 (0x01 ∷ 0x01 ∷ 0x61 ∷ 0x05 ∷ []) [] [] [] ≡ kept (TypeMismatch M.FullScan) [] [] []
 unfolding decodeMessage settled fitted filled readMessage readEntry readProfile lay layProfile many readTimes getU64 readFrom getName getText skimText utf8 scan lead part
 example-first = refl
+
+-- entry 13 names no message: its payload is the one text, though it is not UTF-8
+example-opaque : decodeMessage 67108864 64 13 (0xFF ∷ 0x61 ∷ []) (9 ∷ 9 ∷ 9 ∷ []) (9 ∷ []) (9 ∷ []) ≡ record { answer = Accepted (Msg.Opaque (record { start = 0; len = 2 })); text = 0xFF ∷ 0x61 ∷ 0 ∷ []; rows = 0 ∷ []; nodes = 0 ∷ [] }
+unfolding decodeMessage settled fitted filled readMessage readEntry lay
+example-opaque = refl
+
+-- 16(1): the control message above, and no room for its text
+example-text : decodeMessage 67108864 64 7 (0x02 ∷ 0x01 ∷ 0x61 ∷ 0x07 ∷ 0x00 ∷ []) [] (9 ∷ []) [] ≡ kept (TooSmall Text 1) [] (9 ∷ []) []
+unfolding decodeMessage settled fitted readMessage readEntry readControl lay layControl getU64 readFrom getName getText skimText utf8 scan lead part
+example-text = refl
+
+-- 16(3): a type whose key and value take two nodes, and room for one
+example-nodes : decodeMessage 67108864 64 6 (1 ∷ 3 ∷ 1 ∷ 0x70 ∷ 0 ∷ 0 ∷ 1 ∷ 1 ∷ []) (9 ∷ []) (9 ∷ 9 ∷ 9 ∷ 9 ∷ 9 ∷ 9 ∷ []) (9 ∷ 9 ∷ 9 ∷ 9 ∷ 9 ∷ 9 ∷ 9 ∷ [])
+    ≡ kept (TooSmall Nodes 14) (9 ∷ []) (9 ∷ 9 ∷ 9 ∷ 9 ∷ 9 ∷ 9 ∷ []) (9 ∷ 9 ∷ 9 ∷ 9 ∷ 9 ∷ 9 ∷ 9 ∷ [])
+unfolding decodeMessage settled fitted readMessage readEntry readTypes lay layTypes many readTimes desc headAt texts placed rows size getU64 readFrom getName getText skimText utf8 scan lead part
+example-nodes = refl

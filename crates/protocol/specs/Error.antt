@@ -52,3 +52,13 @@ example-read = refl
 example-unknown : readError true (12 ∷ []) ≡ bad (TypeMismatch M.ErrorCode)
 unfolding readError
 example-unknown = refl
+
+-- it has one text, from the start of text on
+example-laid : layError (record { code = UnknownDatabase; text = 0x61 ∷ [] }) ≡ record { message = Msg.Error UnknownDatabase (record { start = 0; len = 1 }); piece = words (0x61 ∷ []) }
+unfolding layError
+example-laid = refl
+
+-- and back from anywhere in text
+example-held : heldError UnknownDatabase (record { start = 1; len = 1 }) (0x62 ∷ 0x61 ∷ []) ≡ held (record { code = UnknownDatabase; text = 0x61 ∷ [] })
+unfolding heldError textHeld utf8 scan lead part
+example-held = refl

@@ -7,7 +7,7 @@ use mathlib.Core.List.{List, [], _∷_}
 use Prim.Native.Nat.{ℕ, _+_, _*_, _/_, _%_}
 use lib.Bits.{bitOr}
 use lib.Dec.{ltb, eqb}
-use lib.ListN.{length}
+use lib.ListN.{length, replicate}
 use Rattle.varint.specs.Choice.{pick}
 use Rattle.varint.specs.Formats.{Got, got, bad, then, Format, varint, _⊗_, named}
 use Rattle.varint.specs.Gathering.{Held, lacks, thenHeld, held}
@@ -92,3 +92,18 @@ example-bad = refl
 example-pair : pair .read (0x02 ∷ 0x05 ∷ []) 0 ≡ got 2199023255557 2
 unfolding getU64 readFrom
 example-pair = refl
+
+-- each id is a row of one number
+example-rows : layFetch (record { digest = Absent; ids = 5 ∷ 6 ∷ [] }) .piece .rows 0 0 ≡ 5 ∷ 6 ∷ []
+unfolding layFetch many
+example-rows = refl
+
+-- two ids of the three in rows
+example-held : heldFetch (Present 7) 2 (5 ∷ 6 ∷ 9 ∷ []) ≡ held (record { digest = Present 7; ids = 5 ∷ 6 ∷ [] })
+unfolding heldFetch heldTimes
+example-held = refl
+
+-- the rows are there, and they are one too many
+example-many : heldFetch Absent 4097 (replicate 4097 0) ≡ lacks (BlockTooLarge 4097 4096)
+unfolding heldFetch
+example-many = refl

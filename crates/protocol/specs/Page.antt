@@ -69,3 +69,13 @@ example-short = refl
 example-query : readPage true (5 ∷ 0 ∷ 0 ∷ 0 ∷ 0 ∷ 0 ∷ 0 ∷ 0 ∷ 0 ∷ 0 ∷ 0 ∷ 0 ∷ 0xFF ∷ []) ≡ bad BadString
 unfolding readPage getLe le part utf8 scan lead
 example-query = refl
+
+-- the query stands behind the cursor in text
+example-text : layPage (record { limit = 5; cursor = 0xFF ∷ []; query = 0x71 ∷ [] }) .piece .text ≡ 0xFF ∷ 0x71 ∷ []
+unfolding layPage
+example-text = refl
+
+-- and back: the cursor need not be UTF-8
+example-held : heldPage 5 (record { start = 0; len = 1 }) (record { start = 1; len = 1 }) (0xFF ∷ 0x71 ∷ []) ≡ held (record { limit = 5; cursor = 0xFF ∷ []; query = 0x71 ∷ [] })
+unfolding heldPage rawHeld textHeld utf8 scan lead part
+example-held = refl

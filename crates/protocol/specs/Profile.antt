@@ -10,7 +10,7 @@ use Prim.Native.Nat.{ℕ, _+_}
 use lib.Dec.{leb}
 use lib.ListN.{length, getD}
 use Rattle.varint.specs.Formats.{Got, Format, varint, _⊗_, named, got, bad, readTimes}
-use Rattle.varint.specs.Gathering.{Held, held, thenHeld, nameHeld}
+use Rattle.varint.specs.Gathering.{Held, held, thenHeld, textHeld, nameHeld}
 use Rattle.varint.specs.declared.error.Mismatch.the-variants as M
 use Rattle.varint.specs.declared.error.Refusal.the-variants.{LengthOutOfRange}
 use Rattle.protocol.specs.Fields.{name, flag, bit, yes, countedTo}
@@ -75,3 +75,13 @@ example-read = refl
 example-count : readProfile true (3 ∷ 0 ∷ []) ≡ bad (LengthOutOfRange 3 2)
 unfolding readProfile getU64 readFrom
 example-count = refl
+
+-- a step's row: where its label starts, how long it is, how many were examined, and 1 for a full scan
+example-rows : layProfile (record { label = 0x61 ∷ []; examined = 9; fullScan = true } ∷ []) .piece .rows 0 0 ≡ 0 ∷ 1 ∷ 9 ∷ 1 ∷ []
+unfolding layProfile many
+example-rows = refl
+
+-- and back
+example-held : heldProfile 1 (0x61 ∷ []) (0 ∷ 1 ∷ 9 ∷ 1 ∷ []) ≡ held (record { label = 0x61 ∷ []; examined = 9; fullScan = true } ∷ [])
+unfolding heldProfile allGood heldTimes heldStep nameHeld textHeld utf8 scan lead part
+example-held = refl

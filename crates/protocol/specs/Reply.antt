@@ -1,5 +1,6 @@
 -- 8 control reply: "A control reply is created, finished or removed, each with its own fields; finished has three varints and a flag."
-use Rattle.varint.specs.declared.error.Refusal.the-variants.{TrailingBytes}
+use Rattle.varint.specs.declared.error.Fault.the-variants.{Texts}
+use Rattle.varint.specs.declared.error.Refusal.the-variants.{BadMessage, TrailingBytes}
 use Rattle.varint.specs.Stores.{part}
 use Rattle.varint.specs.Utf8.{utf8, scan, lead}
 use Rattle.varint.specs.Texts.{skimText, getText, getName}
@@ -9,7 +10,7 @@ use mathlib.Core.Bool.{Bool, true}
 use mathlib.Core.List.{List, _++_, [], _∷_}
 use Prim.Native.Nat.{ℕ}
 use Rattle.varint.specs.Formats.{Got, got, then, Format, varint, _⊗_, named, bad}
-use Rattle.varint.specs.Gathering.{Held, held, thenHeld, nameHeld}
+use Rattle.varint.specs.Gathering.{Held, held, lacks, thenHeld, textHeld, nameHeld}
 use Rattle.varint.specs.declared.error.Mismatch.the-variants as M
 use Rattle.protocol.specs.Fields.{name, controlOp, flag}
 use Rattle.protocol.specs.Laying.{Laid, spanOf}
@@ -86,3 +87,18 @@ example-finished = refl
 example-removed : readReply true (3 ∷ 0 ∷ []) ≡ bad (TrailingBytes 1)
 unfolding readReply
 example-removed = refl
+
+-- the instance is the one text
+example-laid : layReply (created (0x61 ∷ [])) ≡ record { message = Msg.Reply (R.Created (record { start = 0; len = 1 })); piece = words (0x61 ∷ []) }
+unfolding layReply
+example-laid = refl
+
+-- and back from anywhere in text
+example-held : heldReply (R.Created (record { start = 1; len = 1 })) (0x62 ∷ 0x61 ∷ []) ≡ held (created (0x61 ∷ []))
+unfolding heldReply nameHeld textHeld utf8 scan lead part
+example-held = refl
+
+-- an instance past text's end
+example-past : heldReply (R.Created (record { start = 1; len = 1 })) (0x62 ∷ []) ≡ lacks (BadMessage Texts)
+unfolding heldReply nameHeld textHeld
+example-past = refl

@@ -125,3 +125,13 @@ example-rows = refl
 example-nodes : layTypes (sample ∷ []) .piece .nodes 0 0 ≡ 0 ∷ 0 ∷ 0 ∷ 0 ∷ 0 ∷ 0 ∷ 1 ∷ 1 ∷ 0 ∷ 0 ∷ 0 ∷ 0 ∷ 0 ∷ 2 ∷ []
 unfolding layTypes many texts placed rows size
 example-nodes = refl
+
+-- the same taken out of the memory again
+example-held : heldTypes 64 1 (0x70 ∷ []) (3 ∷ 0 ∷ 1 ∷ 0 ∷ 1 ∷ 0 ∷ []) (0 ∷ 0 ∷ 0 ∷ 0 ∷ 0 ∷ 0 ∷ 1 ∷ 1 ∷ 0 ∷ 0 ∷ 0 ∷ 0 ∷ 0 ∷ 2 ∷ []) ≡ held (sample ∷ [])
+unfolding heldTypes allGood typeNumbers typesLaid typeLaid heldTimes heldPredicate heldIn gather table nodeFits rootName discriminantFits predicateFits isBranch leafFits nameHeld textHeld utf8 scan lead part
+example-held = refl
+
+-- the row says that the key is node 1, and leaves node 0 to no type
+example-gap : heldTypes 64 1 (0x70 ∷ []) (3 ∷ 0 ∷ 1 ∷ 0 ∷ 0 ∷ 1 ∷ []) (0 ∷ 0 ∷ 0 ∷ 0 ∷ 0 ∷ 0 ∷ 1 ∷ 1 ∷ 0 ∷ 0 ∷ 0 ∷ 0 ∷ 0 ∷ 2 ∷ []) ≡ lacks (BadMessage Layout)
+unfolding heldTypes allGood typeNumbers typesLaid typeLaid
+example-gap = refl
