@@ -2,7 +2,7 @@
 use mathlib.Core.Path.{_≡_, _∙_, ap}
 use mathlib.Core.Logic.{⊎-elim}
 use mathlib.Core.List.{List, _++_}
-use Prim.Native.Nat.{ℕ, _+_, _*_, _/_, _%_, _^_, _<_}
+use Prim.Native.Nat.{ℕ, _+_, _*_, _/_, _%_, _^_, _≤_, _<_}
 use native.Mathlib.Nat.{eq-zero-or-pos}
 use native.Mathlib.Omega.{arith}
 use lib.ListN.{length}
@@ -11,9 +11,10 @@ use mir.Syntax.{w64}
 use mir.Val.{SFits}
 use borrow.Author.Tests.{ne-eqb}
 use Rattle.varint.specs.Leb128.{putU64}
+use Rattle.varint.specs.Stores.{filled}
 use Rattle.varint.specs.Zigzag.{zig, unzig, getI64}
 use Rattle.varint.specs.declared.signed.ReadI64.the-variants.{Value}
-use Rattle.varint.proofs.VarintLaws.{get-put}
+use Rattle.varint.proofs.VarintLaws.{get-put, get-filled}
 
 pub unzig-even : (u : ℕ) → u % 2 ≡ 0 → unzig u ≡ pos (u / 2)
 unfolding unzig
@@ -54,3 +55,7 @@ unzig-fits u h =
 pub get-put-signed : (z : ℤ) (before rest : List ℕ) → SFits w64 z
     → getI64 (before ++ (putU64 (zig z) ++ rest)) (length before) ≡ Value z (length before + length (putU64 (zig z)))
 get-put-signed z before rest f = rw (get-put (zig z) before rest (zig-fits z f), unzig-zig z)
+
+-- so from the start of a buffer into which it was written alone
+pub get-filled-signed : (d : List ℕ) (z : ℤ) → SFits w64 z → 10 ≤ length d → getI64 (filled d (putU64 (zig z))) 0 ≡ Value z (length (putU64 (zig z)))
+get-filled-signed d z f room = rw (get-filled d (zig z) (zig-fits z f) room, unzig-zig z)

@@ -5,7 +5,8 @@ use Prim.Native.Nat.{ℕ, _+_, _*_, _/_, _%_}
 use lib.Dec.{eqb}
 use lib.IntN.{ℤ, pos, negsuc}
 use Rattle.varint.specs.Choice.{pick}
-use Rattle.varint.specs.Leb128.{getU64, readFrom}
+use Rattle.varint.specs.Leb128.{getU64, readFrom, putU64, putBy}
+use Rattle.varint.specs.Stores.{filled}
 use Rattle.varint.specs.declared.ReadU64.{ReadU64}
 use Rattle.varint.specs.declared.ReadU64.the-variants.{Value as Number, Refused as NoNumber}
 use Rattle.varint.specs.declared.signed.ReadI64.{ReadI64}
@@ -39,3 +40,8 @@ example-one = refl
 example-300 : getI64 (0xD8 ∷ 0x04 ∷ []) 0 ≡ Value (pos 300) 2
 unfolding getU64 readFrom unzig
 example-300 = refl
+
+-- "A varint written alone follows 16(5) too.": the same number in a buffer of three bytes
+example-alone : filled (9 ∷ 9 ∷ 9 ∷ []) (putU64 (zig (pos 300))) ≡ 0xD8 ∷ 0x04 ∷ 0 ∷ []
+unfolding filled putU64 putBy zig
+example-alone = refl

@@ -3,8 +3,11 @@ ghost use mathlib.Core.Path.{_≡_};
 ghost use lib.ListN.{length};
 ghost use lib.Seq.{sets};
 ghost use Rattle.varint.specs.Leb128.{putU64};
+ghost use Rattle.varint.specs.Outs.{wrote};
+ghost use Rattle.varint.specs.Stores.{filled};
 ghost use Rattle.varint.specs.Zigzag.{zig, unzig, getI64};
 use crate::ReadU64;
+use crate::Written;
 use crate::error::Refusal;
 
 pub enum ReadI64 {
@@ -49,4 +52,11 @@ pub fn put_i64(out: &mut [u8], at: usize, value: i64) -> usize
     ensures { λ r. ⌜ (r ≡ length (putU64 (zig value))) × (now (out .exit) ≡ sets (now (out .entry)) at (putU64 (zig value))) ⌝ }
 {
     crate::put_u64(out, at, zigzag(value))
+}
+
+// The zigzag varint of `value` alone in `out`, and zeros after it; or a refusal, and nothing is written.
+pub fn encode_i64(out: &mut [u8], value: i64) -> Written
+    ensures { λ r. ⌜ (r ≡ wrote (now (out .entry)) (putU64 (zig value))) × (now (out .exit) ≡ filled (now (out .entry)) (putU64 (zig value))) ⌝ }
+{
+    crate::encode_u64(out, zigzag(value))
 }
