@@ -20,6 +20,10 @@ use Rattle.protocol.specs.declared.message.Mode.{Mode}
 use Rattle.protocol.specs.declared.message.Span.{Span}
 use Rattle.protocol.specs.declared.message.Message.the-variants as Msg
 
+-- the version of the protocol that is spoken here: `VERSION` of protocol.rs
+abbrev pub spokenVersion : ℕ
+spokenVersion = 4
+
 pub record Claim : Type 0 where
   pub name : List ℕ
   pub fingerprint : ℕ
@@ -84,9 +88,9 @@ heldStartup version database mode fingerprint count tx rs =
     (λ d. thenHeld (heldTimes (heldClaim tx rs) claimWidth count 0)
     (λ l. held (record { version = version; database = d; mode = mode; fingerprint = fingerprint; claims = l }))))
 
--- version 4, database "d" to read and write, fingerprint 7, and one claim: "a" has fingerprint 5
+-- the version spoken here, database "d" to read and write, fingerprint 7, and one claim: "a" has fingerprint 5
 abbrev sample : Startup
-sample = record { version = 4; database = 0x64 ∷ []; mode = ReadWrite; fingerprint = 7; claims = record { name = 0x61 ∷ []; fingerprint = 5 } ∷ [] }
+sample = record { version = spokenVersion; database = 0x64 ∷ []; mode = ReadWrite; fingerprint = 7; claims = record { name = 0x61 ∷ []; fingerprint = 5 } ∷ [] }
 
 example-read : readStartup true (4 ∷ 1 ∷ 0x64 ∷ 1 ∷ 7 ∷ 1 ∷ 1 ∷ 0x61 ∷ 5 ∷ []) ≡ got sample 9
 unfolding readStartup readTimes getU64 readFrom getName getText skimText utf8 scan lead part
@@ -101,6 +105,6 @@ example-rows : layStartup sample .piece .rows 0 0 ≡ 1 ∷ 1 ∷ 5 ∷ []
 unfolding layStartup many
 example-rows = refl
 
-example-held : heldStartup 4 (record { start = 0; len = 1 }) ReadWrite 7 1 (0x64 ∷ 0x61 ∷ []) (1 ∷ 1 ∷ 5 ∷ []) ≡ held sample
+example-held : heldStartup spokenVersion (record { start = 0; len = 1 }) ReadWrite 7 1 (0x64 ∷ 0x61 ∷ []) (1 ∷ 1 ∷ 5 ∷ []) ≡ held sample
 unfolding heldStartup heldTimes heldClaim nameHeld textHeld utf8 scan lead part
 example-held = refl

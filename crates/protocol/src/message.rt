@@ -2,6 +2,7 @@
 ghost use mathlib.Core.Path.{_≡_};
 ghost use Rattle.protocol.specs.Codes.{modeOf, modeByte, errorOf, errorByte, opOf, opByte};
 ghost use Rattle.protocol.specs.Rows.{widthOf};
+ghost use Rattle.protocol.specs.Startup.{spokenVersion};
 use varint::error::Refusal;
 
 // How a session is opened.
@@ -148,6 +149,13 @@ impl Message {
 
     // The most ids that a fetch may ask for.
     pub const MAX_FETCH: u64 = 4096;
+
+    // `VERSION` for callers of functions alone; its contract holds the constant to the definition.
+    pub fn spoken_version() -> u32
+        ensures { λ r. ⌜ r ≡ spokenVersion ⌝ }
+    {
+        Message::VERSION
+    }
 }
 
 impl RowKind {
