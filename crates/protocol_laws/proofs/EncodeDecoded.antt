@@ -35,6 +35,8 @@ module _ (tx rs nd : List ℕ) (message : Message) (tx′ rs′ nd′ : List ℕ
     text : tx′ ≡ l .piece .text ++ text-rest
     rows-rest : List ℕ
     rows : rs′ ≡ l .piece .rows 0 0 ++ rows-rest
+    nodes-rest : List ℕ
+    nodes : nd′ ≡ l .piece .nodes 0 0 ++ nodes-rest
 
   not-kept : {X : Type 0} (e : Refusal) → kept e tx rs nd ≡ accepted → X
   not-kept e h = let a = ap (λ (x : Left). x .answer) h in let z : _≡_ {A = ℕ} 0 1 = cc in absurd (omega arith)
@@ -44,11 +46,12 @@ module _ (tx rs nd : List ℕ) (message : Message) (tx′ rs′ nd′ : List ℕ
   fitted-laid l =
       let T : List ℕ = l .piece .text in
       let R : List ℕ = l .piece .rows 0 0 in
+      let D : List ℕ = l .piece .nodes 0 0 in
       let P : Left → Type 0 = λ x. x ≡ accepted → LaidAs l in
       pick-cases P (ltb (length tx) (length T)) (λ _. not-kept _)
       (λ t. pick-cases P (ltb (length rs) (length R)) (λ _. not-kept _)
-      (λ r. pick-cases P (ltb (length nd) (length (l .piece .nodes 0 0))) (λ _. not-kept _)
-      (λ _ h.
+      (λ r. pick-cases P (ltb (length nd) (length D)) (λ _. not-kept _)
+      (λ n h.
       let a = ap (λ (x : Left). x .answer) h in
       record {
         fields = cc;
@@ -56,6 +59,8 @@ module _ (tx rs nd : List ℕ) (message : Message) (tx′ rs′ nd′ : List ℕ
         text = sym (ap (λ (x : Left). x .text) h) ∙ filled-fits tx T (ltb-false (length tx) (length T) t);
         rows-rest = replicate (length rs - length R) 0;
         rows = sym (ap (λ (x : Left). x .rows) h) ∙ filled-fits rs R (ltb-false (length rs) (length R) r);
+        nodes-rest = replicate (length nd - length D) 0;
+        nodes = sym (ap (λ (x : Left). x .nodes) h) ∙ filled-fits nd D (ltb-false (length nd) (length D) n);
       })))
 
   -- so an accepted message was read and is laid out
@@ -71,10 +76,11 @@ module _ (tx rs nd : List ℕ) (message : Message) (tx′ rs′ nd′ : List ℕ
   settled-laid (bad e) h = not-kept e h
 
 -- what is laid out there is encoded to its bytes
-laid-encoded : (max limit : ℕ) {m : Said} → Sound m → (tx rs nd X Y d : List ℕ) (message : Message) → lay m .message ≡ message
-    → tx ≡ lay m .piece .text ++ X → rs ≡ lay m .piece .rows 0 0 ++ Y → encodeMessage max limit message tx rs nd d ≡ send max (printSaid m) d
+laid-encoded : (max limit : ℕ) (m : Said) → Sound limit m → (tx rs nd X Y Z d : List ℕ) (message : Message) → lay m .message ≡ message
+    → tx ≡ lay m .piece .text ++ X → rs ≡ lay m .piece .rows 0 0 ++ Y → nd ≡ lay m .piece .nodes 0 0 ++ Z
+    → encodeMessage max limit message tx rs nd d ≡ send max (printSaid m) d
 unfolding encodeMessage sent
-laid-encoded max limit o tx rs nd X Y d message f t r = rw (← f, t, r, held-laid limit o X Y nd)
+laid-encoded max limit m o tx rs nd X Y Z d message f t r n = rw (← f, t, r, n, held-laid limit m o X Y Z)
 
 module _ (max limit entry : ℕ) (c : Canonical entry) (s : List ℕ) (B : Bytes s) (tx rs nd : List ℕ) (message : Message) (tx′ rs′ nd′ : List ℕ)
     (h : decodeMessage max limit entry s tx rs nd ≡ record { answer = Accepted message; text = tx′; rows = rs′; nodes = nd′ }) (out : List ℕ)
@@ -88,7 +94,8 @@ module _ (max limit entry : ℕ) (c : Canonical entry) (s : List ℕ) (B : Bytes
     encode-decoded =
         let l = decoded .laid in
         let r = read-whole max limit entry s (decoded .said) (decoded .next) c (decoded .read) in
-        laid-encoded max limit (read-sound r B) tx′ rs′ nd′ (l .text-rest) (l .rows-rest) out message (l .fields) (l .text) (l .rows)
+        laid-encoded max limit (decoded .said) (read-sound limit r B) tx′ rs′ nd′ (l .text-rest) (l .rows-rest) (l .nodes-rest) out message (l .fields) (l .text)
+        (l .rows) (l .nodes)
         ∙ ap (λ (x : List ℕ). send max x out) (print-as r B)
 
     -- So out is s and then zeros, or, where s does not fit, as it was, and the answer TooSmall with the length of s: a payload over max is not decoded.

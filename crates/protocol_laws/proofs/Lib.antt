@@ -5,7 +5,9 @@ pub mod FieldsBack
 pub mod FieldsForth
 pub mod FineHeld
 pub mod HeldLaid
+pub mod HeldRows
 pub mod MessageLines
 pub mod MessagesBack
 pub mod MessagesForth
 pub mod Sizes
+pub mod Standing

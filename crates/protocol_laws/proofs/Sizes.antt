@@ -51,7 +51,7 @@ use Rattle.protocol.specs.declared.message.MaybeMode.{MaybeMode}
 use Rattle.protocol.specs.declared.message.MaybeMode.the-variants as MM
 use Rattle.protocol.specs.declared.message.Mode.{Mode}
 use Rattle.protocol_laws.proofs.FieldsForth.{toEnd-got}
-use Rattle.protocol_laws.proofs.HeldLaid.{rows-length}
+use Rattle.protocol_laws.proofs.HeldRows.{rows-length}
 use Rattle.protocol_laws.proofs.MessagesForth.{ended-got, versioned-got}
 use Rattle.protocol.proofs.FieldEnds.{spared, name-ends, text-ends, byte-ends, chain-ends, then-ends, stays, flag-ends}
 use Rattle.protocol.proofs.RowEnds.{weight, claim-ends, step-ends, fact-ends, predicate-ends, predicate-rows, predicate-nodes}
