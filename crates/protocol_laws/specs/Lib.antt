@@ -1,3 +1,4 @@
 pub mod Canonical
 pub mod Fine
 pub mod MessageLines
+pub mod Shown
