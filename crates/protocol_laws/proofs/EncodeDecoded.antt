@@ -8,9 +8,7 @@ use lib.Dec.{ltb}
 use lib.ListN.{length, replicate}
 use borrow.Author.Tests.{ltb-false, le-ltb}
 use Rattle.varint.specs.Formats.{Got, got, bad}
-use Rattle.varint.specs.Outs.{wrote, send}
-use Rattle.varint.specs.RoundTrips.{Bytes}
-use Rattle.varint.specs.Stores.{filled}
+use Rattle.varint.specs.Outs.{send}
 use Rattle.varint.specs.declared.error.Refusal.{Refusal}
 use Rattle.varint.proofs.Basics.{pick-cases}
 use Rattle.varint.proofs.StoreLaws.{filled-fits}
@@ -20,7 +18,7 @@ use Rattle.protocol.specs.Laying.{Laid}
 use Rattle.protocol.specs.Said.{Said, readMessage, printSaid, lay}
 use Rattle.protocol.specs.declared.message.Answer.the-variants.{Accepted}
 use Rattle.protocol.specs.declared.message.Message.{Message}
-use Rattle.protocol_laws.specs.Canonical.{Canonical}
+use Rattle.protocol_laws.specs.Returns.{Decoded, BytesReturn, EncodeDecoded}
 use Rattle.protocol_laws.proofs.HeldLaid.{Sound, held-laid, read-sound}
 use Rattle.protocol_laws.proofs.MessagesForth.{read-whole, read-short, print-as}
 
@@ -64,13 +62,13 @@ module _ (tx rs nd : List ℕ) (message : Message) (tx′ rs′ nd′ : List ℕ
       })))
 
   -- so an accepted message was read and is laid out
-  record Decoded (g : Got Said) : Type 0 where
+  record Taken (g : Got Said) : Type 0 where
     said : Said
     next : ℕ
     read : g ≡ got said next
     laid : LaidAs (lay said)
 
-  settled-laid : (g : Got Said) → settled g tx rs nd ≡ accepted → Decoded g
+  settled-laid : (g : Got Said) → settled g tx rs nd ≡ accepted → Taken g
   unfolding settled
   settled-laid (got m q) h = record { said = m; next = q; read = refl; laid = fitted-laid (lay m) h }
   settled-laid (bad e) h = not-kept e h
@@ -82,24 +80,28 @@ laid-encoded : (max limit : ℕ) (m : Said) → Sound limit m → (tx rs nd X Y 
 unfolding encodeMessage sent
 laid-encoded max limit m o tx rs nd X Y Z d message f t r n = rw (← f, t, r, n, held-laid limit m o X Y Z)
 
-module _ (max limit entry : ℕ) (c : Canonical entry) (s : List ℕ) (B : Bytes s) (tx rs nd : List ℕ) (message : Message) (tx′ rs′ nd′ : List ℕ)
-    (h : decodeMessage max limit entry s tx rs nd ≡ record { answer = Accepted message; text = tx′; rows = rs′; nodes = nd′ }) (out : List ℕ)
-  where
-    decoded : Decoded tx rs nd message tx′ rs′ nd′ (readMessage true max limit entry s)
-    unfolding decodeMessage
-    decoded = settled-laid tx rs nd message tx′ rs′ nd′ (readMessage true max limit entry s) h
+module _ (max limit : ℕ) (s : List ℕ) (message : Message) (tx rs nd : List ℕ) (h : Decoded max limit s message tx rs nd) (out : List ℕ) where
+  taken : Taken (h .t) (h .r) (h .k) message tx rs nd (readMessage true max limit (h .entry) s)
+  unfolding decodeMessage
+  taken = settled-laid (h .t) (h .r) (h .k) message tx rs nd (readMessage true max limit (h .entry) s) (h .left)
 
-    -- Let one of the messages with one encoding be decoded from s into any buffers: encoding it with what these buffers then hold is to send s.
-    pub encode-decoded : encodeMessage max limit message tx′ rs′ nd′ out ≡ send max s out
-    encode-decoded =
-        let l = decoded .laid in
-        let r = read-whole max limit entry s (decoded .said) (decoded .next) c (decoded .read) in
-        laid-encoded max limit (decoded .said) (read-sound limit r B) tx′ rs′ nd′ (l .text-rest) (l .rows-rest) (l .nodes-rest) out message (l .fields) (l .text)
-        (l .rows) (l .nodes)
-        ∙ ap (λ (x : List ℕ). send max x out) (print-as r B)
+  -- encoding it with what these buffers then hold is to send s
+  sent-again : encodeMessage max limit message tx rs nd out ≡ send max s out
+  sent-again =
+      let l = taken .laid in
+      let r = read-whole max limit (h .entry) s (taken .said) (taken .next) (h .canonical) (taken .read) in
+      laid-encoded max limit (taken .said) (read-sound limit r (h .bytes)) tx rs nd (l .text-rest) (l .rows-rest) (l .nodes-rest) out message (l .fields) (l .text)
+      (l .rows) (l .nodes)
+      ∙ ap (λ (x : List ℕ). send max x out) (print-as r (h .bytes))
 
-    -- So out is s and then zeros, or, where s does not fit, as it was, and the answer TooSmall with the length of s: a payload over max is not decoded.
-    pub decoded-sent : encodeMessage max limit message tx′ rs′ nd′ out ≡ record { answer = wrote out s; out = filled out s }
-    unfolding send
-    decoded-sent =
-        encode-decoded ∙ rw (le-ltb max (length s) (read-short max limit entry s (decoded .said) (decoded .next) c (decoded .read)))
+-- For any limits: a payload over max is not decoded, so only out may be too short.
+pub decoded-sent : (max limit : ℕ) → BytesReturn max limit
+unfolding send
+decoded-sent max limit s message tx rs nd h out =
+    let g = taken max limit s message tx rs nd h out in
+    sent-again max limit s message tx rs nd h out
+    ∙ rw (le-ltb max (length s) (read-short max limit (h .entry) s (g .said) (g .next) (h .canonical) (g .read)))
+
+-- on the wire
+pub encode-decoded : EncodeDecoded
+encode-decoded = decoded-sent 67108864 64

@@ -1,7 +1,7 @@
 -- What lent memory holds can be printed and read back: of a message whose fields are of their types, in memory whose numbers are of 64 bits.
 use mathlib.Core.Bool.{Bool, true, _&&_}
 use mathlib.Core.Path.{_≡_, refl, ap}
-use mathlib.Core.List.{List, _++_}
+use mathlib.Core.List.{List, [], _∷_, _++_}
 use Prim.Native.Nat.{ℕ, zero, suc, _+_, _*_, _≤_}
 use native.Mathlib.Omega.{arith}
 use lib.Dec.{ltb, leb}
@@ -43,7 +43,7 @@ use Rattle.protocol.specs.declared.message.Message.the-variants as Msg
 use Rattle.protocol_laws.specs.Fine.{Wide, Narrow, IfPresent, FineClaim, FinePredicate, FineStep, FineReply, FineSaid, TypedReply, Typed, Numbers}
 
 -- nothing is asked of what is held
-any-held : {A : Type 0} (x : Held A) → HeldAs (λ _. Unit {0}) x
+pub any-held : {A : Type 0} (x : Held A) → HeldAs (λ _. Unit {0}) x
 any-held (held a) = tt
 any-held (lacks e) = tt
 
@@ -53,37 +53,47 @@ text-held = name-held
 
 -- Rows
 
+-- What holds of rows one after the other: P of what each row holds, by the number r that it starts at, and so Q of n rows from there on.
+module _ {A : Type 0} (P : ℕ → A → Type 0) (Q : ℕ → ℕ → List A → Type 0) (row : ℕ → Held A) (width : ℕ) (none : (r : ℕ) → Q 0 r [])
+    (more : (n r : ℕ) (a : A) (l : List A) → P r a → Q n (r + width) l → Q (suc n) r (a ∷ l))
+  where
+    -- n rows that are good are n things
+    pub times-held : (good : ℕ → Bool) → ((r : ℕ) → good r ≡ true → HeldAs (P r) (row r))
+        → (n r : ℕ) → allGood good width n r ≡ true → HeldAs (Q n r) (heldTimes row width n r)
+    unfolding heldTimes allGood
+    times-held good h zero r g = none r
+    times-held good h (suc n) r g =
+        let b = both (good r) (allGood good width n (r + width)) g in
+        then-held (P r) (Q (suc n) r) (row r) _ (h r (b .0))
+        (λ a x.
+        then-held (Q n (r + width)) (Q (suc n) r) (heldTimes row width n (r + width)) _ (times-held good h n (r + width) (b .1))
+        (λ l y. more n r a l x y))
+
+    -- so where no row is tested
+    pub rows-held : ((r : ℕ) → HeldAs (P r) (row r)) → (n : ℕ) → HeldAs (Q n 0) (heldTimes row width n 0)
+    unfolding allGood
+    rows-held h n = times-held (λ _. true) (λ r _. h r) n 0 (all n 0)
+      where
+        all : (n r : ℕ) → allGood (λ _. true) width n r ≡ true
+        all zero r = refl
+        all (suc n) r = all n (r + width)
+
 abbrev Rows : {A : Type 0} → (A → Type 0) → ℕ → List A → Type 0
 Rows P n l = (length l ≡ n) × All P l
 
--- n rows that are good are n things
-times-held : {A : Type 0} (P : A → Type 0) (row : ℕ → Held A) (good : ℕ → Bool) (width : ℕ) → ((r : ℕ) → good r ≡ true → HeldAs P (row r))
-    → (n r : ℕ) → allGood good width n r ≡ true → HeldAs (Rows P n) (heldTimes row width n r)
-unfolding heldTimes allGood
-times-held P row good width h zero r g = (refl, tt)
-times-held P row good width h (suc n) r g =
-    let b = both (good r) (allGood good width n (r + width)) g in
-    then-held P (Rows P (suc n)) (row r) _ (h r (b .0))
-    (λ a x.
-    then-held (Rows P n) (Rows P (suc n)) (heldTimes row width n (r + width)) _ (times-held P row good width h n (r + width) (b .1))
-    (λ l y. (ap suc (y .0), (x, y .1))))
+one-more : {A : Type 0} (P : A → Type 0) (n r : ℕ) (a : A) (l : List A) → P a → Rows P n l → Rows P (suc n) (a ∷ l)
+one-more P n r a l x y = (ap suc (y .0), (x, y .1))
 
--- so where no row is tested
-rows-held : {A : Type 0} (P : A → Type 0) (row : ℕ → Held A) (width : ℕ) → ((r : ℕ) → HeldAs P (row r)) → (n : ℕ)
+all-held : {A : Type 0} (P : A → Type 0) (row : ℕ → Held A) (width : ℕ) → ((r : ℕ) → HeldAs P (row r)) → (n : ℕ)
     → HeldAs (Rows P n) (heldTimes row width n 0)
-unfolding allGood
-rows-held P row width h n = times-held P row (λ _. true) width (λ r _. h r) n 0 (all n 0)
-  where
-    all : (n r : ℕ) → allGood (λ _. true) width n r ≡ true
-    all zero r = refl
-    all (suc n) r = all n (r + width)
+all-held P row width = rows-held (λ _. P) (λ n _. Rows P n) row width (λ _. (refl, tt)) (one-more P)
 
 -- they are a list that can be printed, where their count can
 listed : {A : Type 0} (P : A → Type 0) {n : ℕ} (l : List A) → Wide n → Rows P n l → ListOk P l
 listed P l w h = (rw (h .0) w, h .1)
 
 -- the value of a predicate
-abbrev valueIn : ℕ → List ℕ → List ℕ → ℕ → ℕ → Held (Optional (Tree (List ℕ)))
+abbrev pub valueIn : ℕ → List ℕ → List ℕ → ℕ → ℕ → Held (Optional (Tree (List ℕ)))
 valueIn limit tx nd n m = pick (yes n) (thenHeld (heldIn (table limit nd m 0) tx) (λ v. held (present v))) (held absent)
 
 -- Fine if it is short: a page's cursor has its length in 32 bits, and is no longer than the page.
@@ -136,7 +146,7 @@ module _ (tx rs nd : List ℕ) (T : Wide (length tx)) (D : Wide (length nd)) (N 
       pick-both (HeldAs P) (ltb (length rs) (count * claimWidth)) tt
       (then-held TextOk P (nameHeld tx (database .start) (database .len)) _ (name-held tx _ _ T)
       (λ d a.
-      then-held (Rows FineClaim count) P (heldTimes (heldClaim tx rs) claimWidth count 0) _ (rows-held FineClaim (heldClaim tx rs) claimWidth claim-held count)
+      then-held (Rows FineClaim count) P (heldTimes (heldClaim tx rs) claimWidth count 0) _ (all-held FineClaim (heldClaim tx rs) claimWidth claim-held count)
       (λ l b. (t .0, a, t .1, listed FineClaim l (t .2) b))))
 
   error-held : (code : ErrorCode) (text : Span) → HeldAs (λ m. FineSaid 0 (saidError m)) (heldError code text tx)
@@ -145,7 +155,7 @@ module _ (tx rs nd : List ℕ) (T : Wide (length tx)) (D : Wide (length nd)) (N 
 
   ids-held : (count : ℕ) → HeldAs (Rows Wide count) (heldIds count rs)
   unfolding heldIds
-  ids-held count = pick-both (HeldAs (Rows Wide count)) (ltb (length rs) (count * idWidth)) tt (rows-held Wide (heldId rs) idWidth N count)
+  ids-held count = pick-both (HeldAs (Rows Wide count)) (ltb (length rs) (count * idWidth)) tt (all-held Wide (heldId rs) idWidth N count)
 
   types-held : (limit count : ℕ) → HeldAs (Rows (FinePredicate limit) count) (heldTypes limit count tx rs nd)
   unfolding heldTypes
@@ -155,7 +165,9 @@ module _ (tx rs nd : List ℕ) (T : Wide (length tx)) (D : Wide (length nd)) (N 
       (pick-cases (HeldAs P) (allGood (typeNumbers rs) typeWidth count 0)
       (λ g.
       then-held (λ _. Unit) P (typesLaid limit rs nd count 0 0) _ (any-held (typesLaid limit rs nd count 0 0))
-      (λ _ _. times-held (FinePredicate limit) (heldPredicate limit tx rs nd) (typeNumbers rs) typeWidth (predicate-held limit) count 0 g))
+      (λ _ _.
+      times-held (λ _. FinePredicate limit) (λ n _. Rows (FinePredicate limit) n) (heldPredicate limit tx rs nd) typeWidth (λ _. (refl, tt))
+      (one-more (FinePredicate limit)) (typeNumbers rs) (predicate-held limit) count 0 g))
       (λ _. tt))
 
   control-held : (op : ControlOp) (database : Span) (allow : Bool) (schema : Span)
@@ -177,7 +189,7 @@ module _ (tx rs nd : List ℕ) (T : Wide (length tx)) (D : Wide (length nd)) (N 
   profile-held count =
       let P : List Step → Type 0 = Rows FineStep count in
       pick-both (HeldAs P) (ltb (length rs) (count * stepWidth)) tt
-      (pick-both (HeldAs P) (allGood (stepNumbers rs) stepWidth count 0) (rows-held FineStep (heldStep tx rs) stepWidth step-held count) tt)
+      (pick-both (HeldAs P) (allGood (stepNumbers rs) stepWidth count 0) (all-held FineStep (heldStep tx rs) stepWidth step-held count) tt)
 
   page-held : (limit : ℕ) (cursor query : Span) → Wide limit → HeldAs (λ m. Short 0 (saidPage m)) (heldPage limit cursor query tx)
   unfolding heldPage FineSaid printSaid
@@ -195,7 +207,7 @@ module _ (tx rs nd : List ℕ) (T : Wide (length tx)) (D : Wide (length nd)) (N 
       pick-both (HeldAs P) (ltb (length rs) (count * idWidth)) tt
       (pick-cases (HeldAs P) (ltb maxFetch count) (λ _. tt)
       (λ e.
-      then-held (Rows Wide count) P (heldTimes (heldId rs) idWidth count 0) _ (rows-held Wide (heldId rs) idWidth N count)
+      then-held (Rows Wide count) P (heldTimes (heldId rs) idWidth count 0) _ (all-held Wide (heldId rs) idWidth N count)
       (λ l b. (t .0, listed Wide l (t .1) b, rw (b .0) (ltb-false maxFetch count e)))))
 
   -- what is held of a message is fine

@@ -31,6 +31,7 @@ use Rattle.protocol.specs.Profile.{stepWidth, layStep, heldStep}
 use Rattle.protocol.specs.RowsHeld.{enough, heldTimes, allGood}
 use Rattle.protocol.specs.Startup.{claimWidth, layClaim, heldClaim}
 use Rattle.protocol.specs.Types.{Predicate, typeWidth, hasValue, layValue, layPredicate, typeNumbers, after, typeLaid, typesLaid, heldPredicate}
+use Rattle.protocol.proofs.RowEnds.{predicate-rows, predicate-nodes}
 use Rattle.protocol_laws.specs.Fine.{IfPresent}
 use Rattle.protocol_laws.proofs.Standing.{At, at-first, at-room, at-cell, at-head, In, in-first, in-rest}
 
@@ -78,6 +79,16 @@ rows-length piece wide cells [] t n = omega arith
 rows-length piece wide cells (a ∷ l) t n =
     let i = rows-length piece wide cells l (t + length (piece a .text)) (n + piece a .size) in
     rw (length-append, cells a t n, i, suc-mul) (omega arith)
+
+-- and seven a node
+pub nodes-length : {A : Type 0} (piece : A → Piece) → ((a : A) (t n : ℕ) → length (piece a .nodes t n) ≡ piece a .size * width)
+    → (l : List A) (t n : ℕ) → length (many piece l .nodes t n) ≡ many piece l .size * width
+unfolding many
+nodes-length piece seven [] t n = refl
+nodes-length piece seven (a ∷ l) t n =
+    let i = nodes-length piece seven l (t + length (piece a .text)) (n + piece a .size) in
+    let j = seven a t n in
+    simp length-append (omega arith)
 
 module _ {A : Type 0} {piece : A → Piece} {row : List ℕ → List ℕ → List ℕ → ℕ → Held A} {wide : ℕ} {Ok : A → Type 0} (R : Rowed piece row wide Ok) where
   module _ (tx rs nd : List ℕ) where
@@ -176,14 +187,6 @@ abbrev pub SoundPredicate : ℕ → Predicate → Type 0
 SoundPredicate limit p =
     (narrow (p .id) ≡ true) × (utf8 (p .name) ≡ true) × Fine TextOk limit (p .key) × IfPresent (Fine TextOk limit) (p .value)
 
-value-cells : (v : Optional (Tree (List ℕ))) (t n : ℕ) → length (layValue v .rows t n) ≡ 0
-value-cells absent t n = refl
-value-cells (present v) t n = refl
-
-value-nodes : (v : Optional (Tree (List ℕ))) (t n : ℕ) → length (layValue v .nodes t n) ≡ layValue v .size * width
-value-nodes absent t n = refl
-value-nodes (present v) t n = length-placed v t n (0, 0) 0
-
 -- the value at node n, if there is one
 value-held : (limit : ℕ) (v : Optional (Tree (List ℕ))) → IfPresent (Fine TextOk limit) v → (tx rs nd : List ℕ) (t r n : ℕ) → In (layValue v) tx rs nd t r n
     → pick (yes (bit (hasValue v))) (thenHeld (heldIn (table limit nd n 0) tx) (λ x. held (present x))) (held absent) ≡ held v
@@ -255,12 +258,8 @@ module _ (limit : ℕ) (p : Predicate) (ok : SoundPredicate limit p) (tx rs nd :
 pub predicate-rowed : (limit : ℕ) → Rowed layPredicate (heldPredicate limit) typeWidth (SoundPredicate limit)
 predicate-rowed limit =
     record {
-      cells = λ p t n. simp value-cells;
-      nodes = λ p t n.
-          let t₁ : ℕ = t + 0 + length (p .name) in
-          let k = length-placed (p .key) t₁ (n + 0 + 0) (0, 0) 0 in
-          let v = value-nodes (p .value) (t₁ + length (texts (p .key))) (n + 0 + 0 + size (p .key)) in
-          simp length-append (omega arith);
+      cells = predicate-rows;
+      nodes = predicate-nodes;
       again = predicate-held limit;
     }
 

@@ -9,5 +9,9 @@ pub mod HeldRows
 pub mod MessageLines
 pub mod MessagesBack
 pub mod MessagesForth
+pub mod ShownHeld
+pub mod ShownRows
+pub mod ShownSaid
+pub mod ShownTypes
 pub mod Sizes
 pub mod Standing

@@ -24,7 +24,7 @@ use Rattle.desc.proofs.GotAs.{GotAs, got-as}
 use Rattle.protocol.specs.Codes.{modeByte, modeOf, errorByte, errorOf, opByte, opOf}
 use Rattle.protocol.specs.Control.{toControl, fromControl, control, readControl, layControl}
 use Rattle.protocol.specs.Error.{toError, fromError, error, readError, layError}
-use Rattle.protocol.specs.Fields.{text, byte, modeGot, mode, errorGot, errorCode, opGot, controlOp, countedTo, raw, toEnd}
+use Rattle.protocol.specs.Fields.{text, modeGot, mode, errorGot, errorCode, opGot, controlOp, countedTo, raw, toEnd}
 use Rattle.protocol.specs.Fetch.{toFetch, fromFetch, maxFetch, digestOn, printDigest, digest, fetch, readFetch, layFetch}
 use Rattle.protocol.specs.Ids.{idWidth, layId, readIds, layIds}
 use Rattle.protocol.specs.Page.{toPage, fromPage, page, readPage, layPage}
@@ -51,7 +51,7 @@ use Rattle.protocol.specs.declared.message.MaybeMode.{MaybeMode}
 use Rattle.protocol.specs.declared.message.MaybeMode.the-variants as MM
 use Rattle.protocol.specs.declared.message.Mode.{Mode}
 use Rattle.protocol_laws.proofs.FieldsForth.{toEnd-got}
-use Rattle.protocol_laws.proofs.HeldRows.{rows-length}
+use Rattle.protocol_laws.proofs.HeldRows.{rows-length, nodes-length}
 use Rattle.protocol_laws.proofs.MessagesForth.{ended-got, versioned-got}
 use Rattle.protocol.proofs.FieldEnds.{spared, name-ends, text-ends, byte-ends, chain-ends, then-ends, stays, flag-ends}
 use Rattle.protocol.proofs.RowEnds.{weight, claim-ends, step-ends, fact-ends, predicate-ends, predicate-rows, predicate-nodes}
@@ -123,15 +123,6 @@ many-weight : {A : Type 0} (piece : A → Piece) (l : List A) → weight (many p
 unfolding many total
 many-weight piece [] = refl
 many-weight piece (a ∷ l) = let i = many-weight piece l in simp length-append (omega arith)
-
-nodes-length : {A : Type 0} (piece : A → Piece) → ((a : A) (t n : ℕ) → length (piece a .nodes t n) ≡ piece a .size * 7)
-    → (l : List A) (t n : ℕ) → length (many piece l .nodes t n) ≡ many piece l .size * 7
-unfolding many
-nodes-length piece seven [] t n = refl
-nodes-length piece seven (a ∷ l) t n =
-    let i = nodes-length piece seven l (t + length (piece a .text)) (n + piece a .size) in
-    let j = seven a t n in
-    simp length-append (omega arith)
 
 module _ {A : Type 0} {f : Format A} {k : ℕ} (piece : A → Piece) (F : Ends f (λ a. weight (piece a)) k) where
   counted-rows : Ends (counted f) (λ l. weight (many piece l) + length l * k) 1

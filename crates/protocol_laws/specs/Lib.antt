@@ -1,4 +1,5 @@
 pub mod Canonical
 pub mod Fine
 pub mod MessageLines
+pub mod Returns
 pub mod Shown
