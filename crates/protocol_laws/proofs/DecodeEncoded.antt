@@ -47,39 +47,41 @@ module _ (max : ℕ) (x d : List ℕ) (n : ℕ) (d′ : List ℕ) where
       (λ h e. (ltb-false max (length x) h, stored (ap (λ (s : Sent). s .answer) e) (ap (λ (s : Sent). s .out) e)))
 
 -- The longest payload may be any number of 32 bits: a page tells its cursor's length in four bytes.
-module _ (max limit : ℕ) (small : Narrow max) (message : Message) (tx rs nd : List ℕ) (n : ℕ) (out′ : List ℕ) (h : Encoded max limit message tx rs nd n out′) where
-  -- what the memory holds was printed
-  record Printed : Type 0 where
-    said : Said
-    holds : heldSaid limit message tx rs nd ≡ held said
-    bytes : take n out′ ≡ printSaid said
-    short : length (printSaid said) ≤ max
-    fine : FineSaid limit said
+module _ (max limit : ℕ) (small : Narrow max) (message : Message) (tx rs nd : List ℕ) (n : ℕ) (out′ : List ℕ)
+    (h : Encoded max limit message tx rs nd n out′)
+  where
+    -- what the memory holds was printed
+    record Printed : Type 0 where
+      said : Said
+      holds : heldSaid limit message tx rs nd ≡ held said
+      bytes : take n out′ ≡ printSaid said
+      short : length (printSaid said) ≤ max
+      fine : FineSaid limit said
 
-  printed : Printed
-  unfolding encodeMessage sent
-  printed = on (heldSaid limit message tx rs nd) refl (h .sent)
-    where
-      on : (x : Held Said) → heldSaid limit message tx rs nd ≡ x → sent max x (h .out) ≡ record { answer = Wrote n; out = out′ } → Printed
-      on (lacks r) i e = not-wrote (ap (λ (s : Sent). s .answer) e)
-      on (held m) i e =
-          let w = sent-whole max (printSaid m) (h .out) n out′ e in
-          let l = w .0 in
-          record {
-            said = m;
-            holds = i;
-            bytes = w .1;
-            short = l;
-            fine = held-fine limit message tx rs nd m (h .typed) (h .text) (h .nodes) (h .rows) i (omega arith);
-          }
+    printed : Printed
+    unfolding encodeMessage sent
+    printed = on (heldSaid limit message tx rs nd) refl (h .sent)
+      where
+        on : (x : Held Said) → heldSaid limit message tx rs nd ≡ x → sent max x (h .out) ≡ record { answer = Wrote n; out = out′ } → Printed
+        on (lacks r) i e = not-wrote (ap (λ (s : Sent). s .answer) e)
+        on (held m) i e =
+            let w = sent-whole max (printSaid m) (h .out) n out′ e in
+            let l = w .0 in
+            record {
+              said = m;
+              holds = i;
+              bytes = w .1;
+              short = l;
+              fine = held-fine limit message tx rs nd m (h .typed) (h .text) (h .nodes) (h .rows) i (omega arith);
+            }
 
-  -- so the bytes are decoded to its layout
-  laid : (p : Printed) (t r k : List ℕ) → decodeMessage max limit (entryOf (p .said)) (take n out′) t r k ≡ fitted (lay (p .said)) t r k
-  unfolding decodeMessage settled
-  laid p t r k = rw (p .bytes, read-printed max limit (p .said) (p .fine) (p .short))
+    -- so the bytes are decoded to its layout
+    laid : (p : Printed) (t r k : List ℕ) → decodeMessage max limit (entryOf (p .said)) (take n out′) t r k ≡ fitted (lay (p .said)) t r k
+    unfolding decodeMessage settled
+    laid p t r k = rw (p .bytes, read-printed max limit (p .said) (p .fine) (p .short))
 
-  returned : Returned max limit message tx rs nd (take n out′)
-  returned = let p = printed in record { said = p .said; holds = p .holds; bytes = p .bytes; decodes = laid p }
+    returned : Returned max limit message tx rs nd (take n out′)
+    returned = let p = printed in record { said = p .said; holds = p .holds; bytes = p .bytes; decodes = laid p }
 
 -- a buffer that was filled
 filled-cleared : (b x : List ℕ) (needed : ℕ) → needed ≡ length x → length x ≤ length b → Cleared b needed (x ++ replicate (length b - length x) 0)
@@ -129,7 +131,8 @@ returns max limit small message tx rs nd n out′ h t r k =
     let o = fine-sound limit m (p .fine) in
     let w = said-needs m in
     let f = fitted-leaves (shownSaid m) (lay m) (w .0) (w .1) (w .2)
-    (λ X Y Z. held-shown limit (lay m .message) (lay m .piece .text ++ X) (lay m .piece .rows 0 0 ++ Y) (lay m .piece .nodes 0 0 ++ Z) m (held-laid limit m o X Y Z)) t r k in
+    (λ X Y Z.
+    held-shown limit (lay m .message) (lay m .piece .text ++ X) (lay m .piece .rows 0 0 ++ Y) (lay m .piece .nodes 0 0 ++ Z) m (held-laid limit m o X Y Z)) t r k in
     let d : decodeMessage max limit (shownSaid m .entry) (take n out′) t r k ≡ fitted (lay m) t r k =
     rw (said-entry m) (laid max limit small message tx rs nd n out′ h p t r k) in
     rw (e, d) f

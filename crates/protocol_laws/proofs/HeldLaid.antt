@@ -80,7 +80,9 @@ startup-held m u ok X Y Z =
 ids-held : (l X Y Z : List ℕ) → heldIds (length l) (many layId l .rows 0 0 ++ Y) ≡ held l
 unfolding heldIds
 ids-held l X Y Z =
-    rows-enough id-rowed l 0 0 Y _ ∙ rows-held id-rowed (many layId l .text ++ X) (many layId l .rows 0 0 ++ Y) (many layId l .nodes 0 0 ++ Z) l (all-any l) 0 0 0 (in-front (many layId l) X Y Z)
+    rows-enough id-rowed l 0 0 Y _
+    ∙ rows-held id-rowed (many layId l .text ++ X) (many layId l .rows 0 0 ++ Y) (many layId l .nodes 0 0 ++ Z) l (all-any l) 0 0 0
+    (in-front (many layId l) X Y Z)
 
 fetch-held : (m : Fetch) → length (m .ids) ≤ maxFetch → (X Y Z : List ℕ) → heldFetch (m .digest) (length (m .ids)) (layFetch m .piece .rows 0 0 ++ Y) ≡ held m
 unfolding heldFetch layFetch

@@ -209,7 +209,9 @@ module _ (limit : ℕ) (p : Predicate) (ok : SoundPredicate limit p) (tx rs nd :
   row-there = at-first row (layValue (p .value) .rows _ _) (h .rows)
 
   named : In (words (p .name) ⊕ parts) tx rs nd t (r + 6) n
-  named = rw (add-zero t, add-zero n) at (in-rest (cells (λ t n. p .id ∷ t ∷ length (p .name) ∷ bit (p .virtual) ∷ bit (hasValue (p .value)) ∷ n ∷ [])) (words (p .name) ⊕ parts) h 6 refl refl)
+  named =
+      rw (add-zero t, add-zero n) at
+      (in-rest (cells (λ t n. p .id ∷ t ∷ length (p .name) ∷ bit (p .virtual) ∷ bit (hasValue (p .value)) ∷ n ∷ [])) (words (p .name) ⊕ parts) h 6 refl refl)
 
   name-there : At (p .name) tx t
   name-there = in-first (words (p .name)) parts named .text

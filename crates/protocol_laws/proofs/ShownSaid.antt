@@ -268,7 +268,8 @@ digest-lengths (Present d) l = refl
 pub said-needs : (m : Said) → Needs (shownSaid m) (lay m .piece)
 unfolding shownSaid lengths numbers lay layStartup layReady layError layComplete layIds layTypes layControl layReply layProfile layPage layFetch layListing
 said-needs (saidStartup m) =
-    rows-need claimSaid layClaim 3 (λ c n. omega arith) (λ c n. refl) (λ c t n. refl) (λ c t n. refl) 1 (shownSaid (saidStartup m) .fields) (m .database) (add-zero (length (m .database))) (m .claims)
+    rows-need claimSaid layClaim 3 (λ c n. omega arith) (λ c n. refl) (λ c t n. refl) (λ c t n. refl) 1 (shownSaid (saidStartup m) .fields)
+    (m .database) (add-zero (length (m .database))) (m .claims)
 said-needs (saidReady m) = (refl, refl, refl)
 said-needs (saidError m) = (omega arith, refl, refl)
 said-needs (saidComplete m) = (refl, refl, refl)

@@ -184,5 +184,6 @@ module _ (limit : ℕ) (tx rs nd : List ℕ) where
       (λ l t.
       let s = t 0 e h in
       let k = node-count count l e h s in
-      λ i. record { entry = 6; fields = number (sym (s .count) i) ∷ []; rows = s .rows i; nodes = (ap (λ (c : ℕ). rowsShown nodeColumns c tx nd 0) k ∙ s .nodes) i })))
+      let d = ap (λ (c : ℕ). rowsShown nodeColumns c tx nd 0) k ∙ s .nodes in
+      λ i. record { entry = 6; fields = number (sym (s .count) i) ∷ []; rows = s .rows i; nodes = d i })))
       (λ _. tt))

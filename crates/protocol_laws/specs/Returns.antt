@@ -4,10 +4,11 @@ use mathlib.Core.Path.{_≡_, refl}
 use mathlib.Core.List.{List, [], _∷_}
 use Prim.Native.Nat.{ℕ, _-_, _≤_, _<_}
 use native.Mathlib.Omega.{arith}
+use lib.Dec.{lit<}
 use lib.ListN.{length, take, drop, replicate}
-use Rattle.varint.specs.Gathering.{held}
-use Rattle.varint.specs.Leb128.{readFrom, getU64}
-use Rattle.varint.specs.Outs.{wrote}
+use Rattle.varint.specs.Gathering.{held, textHeld, nameHeld}
+use Rattle.varint.specs.Leb128.{readFrom, getU64, putBy, putU64}
+use Rattle.varint.specs.Outs.{wrote, send}
 use Rattle.varint.specs.RoundTrips.{Bytes}
 use Rattle.varint.specs.Stores.{part, filled}
 use Rattle.varint.specs.Texts.{skimText, getText, getName}
@@ -15,9 +16,9 @@ use Rattle.varint.specs.Utf8.{utf8, scan, lead}
 use Rattle.varint.specs.declared.Written.the-variants.{Wrote}
 use Rattle.varint.specs.declared.error.Buffer.the-variants.{Text, Rows, Nodes}
 use Rattle.varint.specs.declared.error.Refusal.the-variants.{TooSmall}
-use Rattle.protocol.specs.Control.{readControl, layControl}
+use Rattle.protocol.specs.Control.{readControl, layControl, heldControl}
 use Rattle.protocol.specs.Decoding.{Left, kept, fitted, settled, decodeMessage}
-use Rattle.protocol.specs.Encoding.{heldSaid, encodeMessage}
+use Rattle.protocol.specs.Encoding.{heldSaid, sent, encodeMessage}
 use Rattle.protocol.specs.Said.{Said, readEntry, readMessage, printSaid, lay, entryOf}
 use Rattle.protocol.specs.declared.message.Answer.the-variants.{Accepted}
 use Rattle.protocol.specs.declared.message.ControlOp.the-variants.{Finish}
@@ -27,7 +28,7 @@ use Rattle.protocol_laws.specs.Canonical.{Canonical}
 use Rattle.protocol_laws.specs.Fine.{Wide, Typed, Numbers}
 use Rattle.protocol_laws.specs.Shown.{Shown, shown, lengths, numbers, textNeeded, rowsNeeded, nodesNeeded}
 
--- the buffer b after so many of its elements were written: as long as it was, and "zero from there to" its end
+-- the buffer b after so many of its elements were written: as long as it was, and "zero from there to their ends"
 pub record Cleared (b : List ℕ) (needed : ℕ) (b′ : List ℕ) : Type 0 where
   pub long : length b′ ≡ length b
   pub zeros : drop needed b′ ≡ replicate (length b - needed) 0
@@ -98,20 +99,26 @@ BytesReturn max limit =
 abbrev pub EncodeDecoded : Type 0
 EncodeDecoded = BytesReturn 67108864 64
 
--- A control whose schema stands before its database in text is encoded to `02 01 61 01 01 62`. Decoded into buffers with old numbers in them, the database
--- comes first, and the rest is zero.
-abbrev control : Shown
-control = shown (Msg.Control Finish (record { start = 1; len = 1 }) true (record { start = 0; len = 1 })) (0x62 ∷ 0x61 ∷ []) [] []
+-- A control whose schema stands before its database in text, encoded into seven bytes: six are written.
+abbrev control : Message
+control = Msg.Control Finish (record { start = 1; len = 1 }) true (record { start = 0; len = 1 })
 
 abbrev controlBytes : List ℕ
-controlBytes = 0x02 ∷ 0x01 ∷ 0x61 ∷ 0x01 ∷ 0x01 ∷ 0x62 ∷ []
+controlBytes = 0x02 ∷ 0x01 ∷ 0x61 ∷ 0x01 ∷ 0x01 ∷ 0x62 ∷ 0 ∷ []
 
-example-same : Leaves control (9 ∷ 9 ∷ 9 ∷ []) (9 ∷ []) [] (decodeMessage 67108864 64 (control .entry) controlBytes (9 ∷ 9 ∷ 9 ∷ []) (9 ∷ []) [])
+example-encoded : Encoded 67108864 64 control (0x62 ∷ 0x61 ∷ []) [] [] 6 controlBytes
+unfolding Typed encodeMessage sent heldSaid heldControl printSaid send wrote filled textHeld nameHeld utf8 scan lead part putU64 putBy
+example-encoded =
+    record { typed = tt; text = lit< tt; nodes = lit< tt; rows = λ i. lit< tt; out = 9 ∷ 9 ∷ 9 ∷ 9 ∷ 9 ∷ 9 ∷ 9 ∷ []; sent = refl }
+
+-- Decoded into buffers with old numbers in them the database comes first, and the rest is zero.
+example-same : Leaves (shown control (0x62 ∷ 0x61 ∷ []) [] []) (9 ∷ 9 ∷ 9 ∷ []) (9 ∷ []) [] (decodeMessage 67108864 64 7 (take 6 controlBytes) (9 ∷ 9 ∷ 9 ∷ []) (9 ∷ []) [])
 unfolding decodeMessage settled fitted filled readMessage readEntry readControl lay layControl getU64 readFrom getName getText skimText utf8 scan lead part shown lengths numbers
 example-same =
     same (omega arith) (omega arith) (omega arith) (Msg.Control Finish (record { start = 0; len = 1 }) true (record { start = 1; len = 1 }))
     (0x61 ∷ 0x62 ∷ 0 ∷ []) (0 ∷ []) [] refl (record { long = refl; zeros = refl }) (record { long = refl; zeros = refl }) (record { long = refl; zeros = refl })
 
-example-short : Leaves control (9 ∷ []) (9 ∷ []) [] (decodeMessage 67108864 64 (control .entry) controlBytes (9 ∷ []) (9 ∷ []) [])
+-- one byte of text is too little: 16(1, 2)
+example-short : Leaves (shown control (0x62 ∷ 0x61 ∷ []) [] []) (9 ∷ []) (9 ∷ []) [] (decodeMessage 67108864 64 7 (take 6 controlBytes) (9 ∷ []) (9 ∷ []) [])
 unfolding decodeMessage settled fitted filled readMessage readEntry readControl lay layControl getU64 readFrom getName getText skimText utf8 scan lead part shown lengths numbers
 example-short = text-short (omega arith)

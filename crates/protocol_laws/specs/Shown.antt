@@ -73,7 +73,8 @@ unfoldable pub rowsShown : List Column → ℕ → List ℕ → List ℕ → ℕ
 rowsShown c zero tx l r = []
 rowsShown c (suc count) tx l r = rowShown c tx l r ++ rowsShown c count tx l (r + across c)
 
--- Where the nodes of the type whose row starts at number r end: its key's node says where the key ends, and "a type's value after its key" where the value does.
+-- Where the nodes of the type whose row starts at number r end: its key's node says where the key ends, the value's, if it has one, where that does.
+-- "end (index past its last descendant; indexes count whole nodes from 0)", "a type's value after its key"
 abbrev pub typeEnd : List ℕ → List ℕ → ℕ → ℕ
 typeEnd rs nd r =
     pick (eqb (getD rs (r + 4) 0) 0) (cell nd (getD rs (r + 5) 0) endAt) (cell nd (cell nd (getD rs (r + 5) 0) endAt) endAt)
@@ -81,7 +82,7 @@ typeEnd rs nd r =
 -- how many nodes `count` types have: the last type's are the last
 unfoldable pub nodeCount : ℕ → List ℕ → List ℕ → ℕ
 nodeCount zero rs nd = 0
-nodeCount (suc count) rs nd = typeEnd rs nd (count * 6)
+nodeCount (suc count) rs nd = typeEnd rs nd (count * across typeColumns)
 
 -- the message's number, 0 if it is opaque; its fields in order, a count too; and its rows and nodes
 pub record Shown : Type 0 where
