@@ -1,1 +1,4 @@
 pub mod LineLaws
+pub mod ListingLaws
+pub mod PageLaws
+pub mod PieceLaws
