@@ -1,95 +1,139 @@
-// Lists a run of frames: reads the kind table and then the run from standard input, and prints a line for each frame and one for the end.
-ghost use Prim.Native.Nat.{_+_, _≤_};
+// Lists a run of frames: reads the kind table and then the run from standard input, and prints a line for each frame and one for the end. What the lines are
+// stands in `listing`; this program reads and writes. A read or a write that fails is told on standard error and ends it with no last line: the run is not
+// known to be over.
+ghost use Prim.Native.Nat.{_+_, _*_, _≤_};
 ghost use lib.ListN.{length};
+ghost use Rattle.io.specs.Counts.{Counts};
 use frame::receiver;
 use frame::receiver::Opening;
-use frame::receiver::Outcome;
 use frame::receiver::Receiver;
 use listing::Last;
 use varint::error::code_of;
 
-// Room for any line: four numbers of at most 20 digits, and a byte after each.
-const LINE: usize = 84;
+// Room for the last line.
+const LAST_LINE: usize = 29;
 
-// Prints the first `len` bytes of a page.
-fn print(page: &[u8], len: usize)
-    requires { ⌜ len ≤ length (now page) ⌝ }
-{
-    io::write_all(libc::STDOUT_FILENO, &page[..len]);
+// How a read went: so many bytes are there, none at the end of the input; or it failed, which was told.
+struct Read {
+    count: usize,
+    failed: bool,
 }
 
-// A place on the page with room for a line: behind the `len` bytes on it, or the start once they are printed.
-fn place_for_line(page: &[u8], len: usize) -> usize
-    requires { ⌜ (84 ≤ length (now page)) × (len ≤ length (now page)) ⌝ }
-    ensures { λ r. ⌜ r + 84 ≤ length (now (page .entry)) ⌝ }
+fn tell_read() {
+    os::fail(b"lister: cannot read");
+}
+
+fn tell_write() {
+    os::fail(b"lister: cannot write");
+}
+
+// Reads what there is, as much as fits. A read that a signal ended is made again: the turns are counted down from a number that no program uses up.
+fn read_some(buf: &mut [u8]) -> Read
+    ensures { λ r. ⌜ Counts (r .count) (now (buf .exit)) ⌝ }
 {
-    if LINE <= page.len() - len {
-        return len;
+    let mut turns = u64::MAX;
+    while 0 < turns {
+        let got = libc::read(libc::STDIN_FILENO, buf);
+        if 0 <= got {
+            return Read {
+                count: io::count(got, buf),
+                failed: false,
+            };
+        }
+        if os::errno() != libc::EINTR {
+            break;
+        }
+        turns -= 1;
     }
-    print(page, len);
+    tell_read();
+    Read {
+        count: 0,
+        failed: true,
+    }
+}
+
+// Reads until `buf` is full or the input ends, however few bytes a read brings.
+fn read_full(buf: &mut [u8]) -> Read
+    ensures { λ r. ⌜ Counts (r .count) (now (buf .exit)) ⌝ }
+{
+    let mut count = 0;
+    while count < buf.len() {
+        let read = read_some(&mut buf[count..]);
+        if read.failed {
+            return Read {
+                count,
+                failed: true,
+            };
+        }
+        if read.count == 0 {
+            break;
+        }
+        count += read.count;
+    }
+    Read {
+        count,
+        failed: false,
+    }
+}
+
+// Writes some of `text`, as much as is taken, and answers how much: 0 where the write failed, which was told. One that a signal ended is made again.
+fn write_some(text: &[u8]) -> usize
+    ensures { λ r. ⌜ r ≤ length (now (text .entry)) ⌝ }
+{
+    let mut turns = u64::MAX;
+    while 0 < turns {
+        let put = libc::write(libc::STDOUT_FILENO, text);
+        if 0 < put {
+            return io::count(put, text);
+        }
+        if os::errno() != libc::EINTR {
+            break;
+        }
+        turns -= 1;
+    }
+    tell_write();
     0
 }
 
-// Puts the line of a frame on the page, which has `len` bytes on it, and returns how many it has then.
-fn add_line(page: &mut [u8], len: usize, kind: u8, stream: u32, payload: u32, number: u64) -> usize
-    requires { ⌜ (84 ≤ length (now page)) × (len ≤ length (now page)) ⌝ }
-    ensures { λ r. ⌜ r ≤ length (now (page .entry)) ⌝ }
+// Prints the first `len` bytes of a page, and answers whether all of them were written.
+fn print(page: &[u8], len: usize) -> bool
+    requires { ⌜ len ≤ length (now page) ⌝ }
 {
-    let at = place_for_line(page, len);
-    at + listing::put_line(&mut page[at..], kind, stream, payload, number)
+    let mut done = 0;
+    while done < len {
+        let put = write_some(&page[done..len]);
+        if put == 0 {
+            return false;
+        }
+        done += put;
+    }
+    true
 }
 
-// The run so far: its receiver, the number of the refusal that ended it, or 0, and whether there may be more of it.
+fn print_last(last: Last) {
+    let mut line = [0u8; LAST_LINE];
+    let n = listing::put_last(&mut line, last);
+    print(&line, n);
+}
+
+// The run so far: its receiver, how it ends if nothing follows, whether there may be more of it, and whether a read or a write failed.
 struct Run {
     receiver: Receiver,
-    stop: u64,
+    last: Last,
     more: bool,
+    failed: bool,
 }
 
-// Offers a piece until it is used up or the run ends, and prints the lines of its frames.
-fn list_piece(
-    receiver: Receiver,
-    piece: &[u8],
-    hold: &mut [u8],
-    text: &mut [u8],
-    rows: &mut [u64],
-    nodes: &mut [u64],
-    page: &mut [u8],
-) -> Run
-    requires { ⌜ 84 ≤ length (now page) ⌝ }
-{
-    let mut r = receiver;
-    let mut at = 0;
-    let mut len = 0;
-    loop {
-        let o = receiver::offer(r, &piece[at..], hold, text, rows, nodes);
-        let next = o.receiver;
-        let outcome = o.outcome;
-        let mut stop = 0;
-        match outcome {
-            Outcome::Handed { header, answer } => {
-                let number = listing::number_of(answer);
-                len = add_line(page, len, header.kind, header.stream, header.length, number);
-                at += o.used;
-                r = next;
-                continue;
-            }
-            Outcome::More => {}
-            Outcome::Stopped(e) => stop = e.number,
-            Outcome::Refused(e) => stop = e.number,
-        }
-        print(page, len);
-        return Run {
-            receiver: next,
-            stop,
-            more: stop == 0,
-        };
+fn is_over(last: Last) -> bool {
+    match last {
+        Last::Held(_) => false,
+        Last::Stopped(_) => true,
     }
 }
 
-// Reads the next piece of the run, however much of it is there, and lists it.
+// Reads the next piece of the run and prints its lines, for all of which the page has room.
 fn list_next(
-    receiver: Receiver,
+    run: Run,
     chunk: &mut [u8],
     hold: &mut [u8],
     text: &mut [u8],
@@ -97,20 +141,33 @@ fn list_next(
     nodes: &mut [u64],
     page: &mut [u8],
 ) -> Run
-    requires { ⌜ 84 ≤ length (now page) ⌝ }
+    requires { ⌜ 84 * (length (now chunk) + 9) ≤ 9 * length (now page) ⌝ }
 {
-    let n = io::count(libc::read(libc::STDIN_FILENO, chunk), chunk);
+    let before = run.receiver;
+    let last = run.last;
+    let read = read_some(chunk);
+    let n = read.count;
     if n == 0 {
         return Run {
-            receiver,
-            stop: 0,
+            receiver: before,
+            last,
             more: false,
+            failed: read.failed,
         };
     }
-    list_piece(receiver, &chunk[..n], hold, text, rows, nodes, page)
+    let l = listing::list_piece(before, &chunk[..n], hold, text, rows, nodes, page);
+    let receiver = l.receiver;
+    let last = l.last;
+    let printed = print(page, l.len);
+    Run {
+        receiver,
+        last,
+        more: printed && !is_over(last),
+        failed: !printed,
+    }
 }
 
-// Nothing says that the input ends, so the pieces are counted down from a number that no run uses up.
+// Lists a run to its end or its stop. Nothing says that the input ends, so the pieces are counted down from a number that no run uses up.
 fn list_run(
     receiver: Receiver,
     chunk: &mut [u8],
@@ -119,38 +176,34 @@ fn list_run(
     rows: &mut [u64],
     nodes: &mut [u64],
     page: &mut [u8],
-) -> Last
-    requires { ⌜ 84 ≤ length (now page) ⌝ }
+) -> Run
+    requires { ⌜ 84 * (length (now chunk) + 9) ≤ 9 * length (now page) ⌝ }
 {
     let mut run = Run {
         receiver,
-        stop: 0,
+        last: Last::Held(0),
         more: true,
+        failed: false,
     };
     let mut turns = u64::MAX;
     while 0 < turns {
         if !run.more {
             break;
         }
-        let r = run.receiver;
-        run = list_next(r, chunk, hold, text, rows, nodes, page);
+        run = list_next(run, chunk, hold, text, rows, nodes, page);
         turns -= 1;
     }
-    if run.stop != 0 {
-        return Last::Stopped(run.stop);
-    }
-    let r = run.receiver;
-    Last::Held(listing::held_of(r))
+    run
 }
 
-// Lends the run its memory: text of 65,536 bytes as the hold has, rows and nodes of 8,192 numbers.
-fn list_opened(receiver: Receiver, hold: &mut [u8]) -> Last {
-    let mut chunk = io::large_buffer();
+// Lends the run its memory, text of 65,536 bytes as the hold has, rows and nodes of 8,192 numbers, and a page with room for the lines of 4,096 bytes.
+fn list_opened(receiver: Receiver, hold: &mut [u8]) {
+    let mut chunk = io::buffer();
     let mut text = io::large_buffer();
     let mut rows = [0u64; 8192];
     let mut nodes = [0u64; 8192];
     let mut page = io::large_buffer();
-    list_run(
+    let run = list_run(
         receiver,
         &mut chunk,
         hold,
@@ -158,18 +211,20 @@ fn list_opened(receiver: Receiver, hold: &mut [u8]) -> Last {
         &mut rows,
         &mut nodes,
         &mut page,
-    )
-}
-
-fn print_last(last: Last) {
-    let mut line = [0u8; LINE];
-    let n = listing::put_last(&mut line, last);
-    print(&line, n);
+    );
+    let last = run.last;
+    if !run.failed {
+        print_last(last);
+    }
 }
 
 fn main() {
     let mut table = [0u8; 256];
-    let n = io::read_full(libc::STDIN_FILENO, &mut table);
+    let read = read_full(&mut table);
+    if read.failed {
+        return;
+    }
+    let n = read.count;
     let mut hold = io::large_buffer();
     let o = receiver::open(receiver::unopened(), &table[..n], &mut hold);
     let opening = o.opening;
@@ -177,7 +232,7 @@ fn main() {
         Opening::Refused(e) => print_last(Last::Stopped(code_of(e).number)),
         Opening::Accepted => {
             let r = o.receiver;
-            print_last(list_opened(r, &mut hold));
+            list_opened(r, &mut hold);
         }
     }
 }

@@ -1,3 +1,4 @@
+-- `list_run` is safe and ends: the turns left fall, and the buffers keep their lengths.
 use mathlib.Core.Path.{_≡_}
 use lib.ListN.{length}
 use borrow.Author.Needs.{needs}
@@ -52,9 +53,6 @@ same-length-6 c = search needs
 returns : tie.Need-returns Inv-loop μ-loop
 returns c = search needs
 
-held-of-requires : tie.Need-held-of-requires Inv-loop μ-loop
-held-of-requires c κs = search needs
-
 same-length-7 : tie.Need-same-length-7 Inv-loop μ-loop
 same-length-7 c = search needs
 
@@ -94,7 +92,6 @@ list-run-spec =
     same-length-5
     same-length-6
     returns
-    held-of-requires
     same-length-7
     same-length-8
     same-length-9

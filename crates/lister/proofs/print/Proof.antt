@@ -1,17 +1,58 @@
-use mathlib.Core.Path.{sym}
-use lib.Seq.{length-take-le}
+-- `print` is safe and ends: what is left of the page falls.
+use Prim.Native.Nat.{_-_, _≤_}
 use borrow.Author.Needs.{needs}
 use Rattle.lister.proofs.print.Statement.{statement}
 use Rattle.lister.proofs.print.Tie as tie
 
-slice-aggregate-write-all : tie.Need-slice-aggregate-write-all
-slice-aggregate-write-all c = sym (length-take-le _ _ (c .before .before .pre))
+abbrev Inv-loop : tie.InvT-loop
+Inv-loop page len done₀ done = done ≤ len
 
-write-all-requires : tie.Need-write-all-requires
-write-all-requires c κs = search needs
+abbrev μ-loop : tie.MeasureT-loop
+μ-loop page len done₀ done = len - done
 
-returns : tie.Need-returns
+loop-holds : tie.Need-loop-holds Inv-loop μ-loop
+loop-holds c = search needs
+
+sub-write-some : tie.Need-sub-write-some Inv-loop μ-loop
+sub-write-some c = search needs
+
+part-write-some-start : tie.Need-part-write-some-start Inv-loop μ-loop
+part-write-some-start c = search needs
+
+part-write-some-end : tie.Need-part-write-some-end Inv-loop μ-loop
+part-write-some-end c = search needs
+
+write-some-requires : tie.Need-write-some-requires Inv-loop μ-loop
+write-some-requires c κs = search needs
+
+returns : tie.Need-returns Inv-loop μ-loop
 returns c = search needs
 
+add-done : tie.Need-add-done Inv-loop μ-loop
+add-done c = search needs
+
+loop-less : tie.Need-loop-less Inv-loop μ-loop
+loop-less c = search needs
+
+loop-again : tie.Need-loop-again Inv-loop μ-loop
+loop-again c = search needs
+
+returns-2 : tie.Need-returns-2 Inv-loop μ-loop
+returns-2 c = search needs
+
 pub print-spec : {M : Type 1} → statement M
-print-spec = tie.close (tie.spec slice-aggregate-write-all write-all-requires returns)
+print-spec =
+    tie.close
+    (tie.spec
+    Inv-loop
+    μ-loop
+    loop-holds
+    sub-write-some
+    part-write-some-start
+    part-write-some-end
+    write-some-requires
+    returns
+    add-done
+    loop-less
+    loop-again
+    returns-2)
