@@ -56,7 +56,7 @@ pub fn number_of(answer: Answer) -> u64
 }
 
 // The header and payload bytes that a receiver holds; 2^64−1 stands for more as well.
-pub fn held_of(receiver: Receiver) -> u64
+fn held_of(receiver: Receiver) -> u64
     ensures { λ r. ⌜ r ≡ heldOf receiver ⌝ }
 {
     let progress = receiver.progress;

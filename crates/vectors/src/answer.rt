@@ -78,6 +78,27 @@ impl Writer {
         self.spaced(buffer).append(buffer, text)
     }
 
+    fn spaced_if(self, buffer: &mut [u8], is_start: bool) -> Writer {
+        if is_start {
+            return self.spaced(buffer);
+        }
+        self
+    }
+
+    // Each line as a word, with its newline as `/`.
+    pub(crate) fn lines(self, buffer: &mut [u8], text: &[u8]) -> Writer {
+        let mut w = self;
+        let mut is_start = true;
+        let mut i = 0;
+        while i < text.len() {
+            let byte = text[i];
+            w = w.spaced_if(buffer, is_start).push(buffer, shown(byte));
+            is_start = byte == b'\n';
+            i += 1;
+        }
+        w
+    }
+
     pub(crate) fn number(self, buffer: &mut [u8], n: u64) -> Writer {
         let mut digits = [0u8; 20];
         let count = io::decimal(n, &mut digits);
@@ -122,6 +143,10 @@ impl Writer {
         }
         w
     }
+}
+
+fn shown(byte: u8) -> u8 {
+    if byte == b'\n' { b'/' } else { byte }
 }
 
 // The number without its sign. The flipped bits of a negative n are −n − 1.

@@ -6,18 +6,17 @@ use Rattle.vectors.proofs.list_ops.list_run.Statement.{statement}
 use Rattle.vectors.proofs.list_ops.list_run.Tie as tie
 
 abbrev Inv-loop : tie.InvT-loop
-Inv-loop stop run size hold₀ text₀ rows₀ nodes₀ answer₀ l₀ turns₀ hold text rows nodes answer l turns =
+Inv-loop bytes size hold₀ text₀ rows₀ nodes₀ page₀ answer₀ run₀ turns₀ hold text rows nodes page answer run turns =
     (length hold ≡ length hold₀)
     × (length text ≡ length text₀)
     × (length rows ≡ length rows₀)
     × (length nodes ≡ length nodes₀)
+    × (length page ≡ length page₀)
     × (length answer ≡ length answer₀)
 
 abbrev μ-loop : tie.MeasureT-loop
-μ-loop stop run size hold₀ text₀ rows₀ nodes₀ answer₀ l₀ turns₀ hold text rows nodes answer l turns = turns
-
-new-requires : tie.Need-new-requires Inv-loop μ-loop
-new-requires c κs = search needs
+μ-loop bytes size hold₀ text₀ rows₀ nodes₀ page₀ answer₀ run₀ turns₀ hold text rows nodes page answer run turns = 
+    turns
 
 loop-holds : tie.Need-loop-holds Inv-loop μ-loop
 loop-holds c = search needs
@@ -49,6 +48,9 @@ same-length-4 c = search needs
 same-length-5 : tie.Need-same-length-5 Inv-loop μ-loop
 same-length-5 c = search needs
 
+same-length-6 : tie.Need-same-length-6 Inv-loop μ-loop
+same-length-6 c = search needs
+
 returns : tie.Need-returns Inv-loop μ-loop
 returns c = search needs
 
@@ -58,7 +60,6 @@ list-run-spec =
     (tie.spec
     Inv-loop
     μ-loop
-    new-requires
     loop-holds
     list-next-requires
     sub-turns
@@ -69,4 +70,5 @@ list-run-spec =
     same-length-3
     same-length-4
     same-length-5
+    same-length-6
     returns)
