@@ -16,8 +16,8 @@ use Rattle.varint.proofs.StoreLaws.{filled-steps}
 use Rattle.desc.specs.declared.DescAnswer.the-variants.{Accepted}
 use Rattle.desc.specs.declared.Walked.{Walked}
 use Rattle.desc.specs.declared.Walked.the-variants.{Read, Refused as NotRead}
-use Rattle.desc.specs.Decoding.{measured, storedAs, Left, kept, settled, decodeDesc}
-use Rattle.desc.specs.Layout.{width, texts, placed, rows}
+use Rattle.desc.specs.Decoding.{measured, storedAs, DecodedDesc, keptDesc, settledDesc, decodeDesc}
+use Rattle.desc.specs.Layout.{width, texts, placed, nodesOf}
 use Rattle.desc.specs.Reading.{desc}
 use Rattle.desc.specs.Trees.{Tree, size}
 use Rattle.desc.specs.inner.Walking.{outcome, Agrees}
@@ -26,13 +26,13 @@ use Rattle.desc.proofs.SkimLaws.{desc-skims}
 
 -- where the payload is not too large
 module _ (tx rs nd : List ℕ) where
-  settle-bad : (D : Got (Tree (List ℕ))) (e : Refusal) → measured D ≡ NotRead e → kept e tx rs nd ≡ settled D tx rs nd
-  unfolding measured settled
+  settle-bad : (D : Got (Tree (List ℕ))) (e : Refusal) → measured D ≡ NotRead e → keptDesc e tx rs nd ≡ settledDesc D tx rs nd
+  unfolding measured settledDesc
   settle-bad (bad x) e h = let y : e ≡ x = cc in rw y refl
   settle-bad (got tr o) e h = let z : _≡_ {A = ℕ} 0 1 = cc in absurd (omega arith)
 
-  settle-text : (D : Got (Tree (List ℕ))) (q t m : ℕ) → measured D ≡ Read q t m → length tx < t → kept (TooSmall Text t) tx rs nd ≡ settled D tx rs nd
-  unfolding measured settled
+  settle-text : (D : Got (Tree (List ℕ))) (q t m : ℕ) → measured D ≡ Read q t m → length tx < t → keptDesc (TooSmall Text t) tx rs nd ≡ settledDesc D tx rs nd
+  unfolding measured settledDesc
   settle-text (bad x) q t m h l = let z : _≡_ {A = ℕ} 0 1 = cc in absurd (omega arith)
   settle-text (got tr o) q t m h l =
       let e : t ≡ length (texts tr) = cc in
@@ -40,8 +40,8 @@ module _ (tx rs nd : List ℕ) where
       rw (e, b) refl
 
   settle-nodes : (D : Got (Tree (List ℕ))) (q t m : ℕ) → measured D ≡ Read q t m → t ≤ length tx → length nd < m * width
-      → kept (TooSmall Nodes (m * width)) tx rs nd ≡ settled D tx rs nd
-  unfolding measured settled
+      → keptDesc (TooSmall Nodes (m * width)) tx rs nd ≡ settledDesc D tx rs nd
+  unfolding measured settledDesc
   settle-nodes (bad x) q t m h l k = let z : _≡_ {A = ℕ} 0 1 = cc in absurd (omega arith)
   settle-nodes (got tr o) q t m h l k =
       let e : t ≡ length (texts tr) = cc in
@@ -53,8 +53,8 @@ module _ (tx rs nd : List ℕ) where
   settle-done : (D E : Got (Tree (List ℕ))) → ((tr : Tree (List ℕ)) (q : ℕ) → D ≡ got tr q → E ≡ got tr q)
       → (q t m end : ℕ) (r : Walked) (tx′ nd′ tx₁ rs₁ nd₁ : List ℕ) → measured D ≡ Read q t m → t ≤ length tx → m * width ≤ length nd
       → Agrees (outcome E tx 0 nd 0 (0, 0) 0) end r tx′ nd′ → tx₁ ≡ clearFrom tx′ t → rs₁ ≡ clearFrom rs 0 → nd₁ ≡ clearFrom nd′ (m * width)
-      → record { answer = Accepted q; text = tx₁; rows = rs₁; nodes = nd₁ } ≡ settled D tx rs nd
-  unfolding measured settled storedAs Agrees outcome
+      → record { answer = Accepted q; text = tx₁; rows = rs₁; nodes = nd₁ } ≡ settledDesc D tx rs nd
+  unfolding measured settledDesc storedAs Agrees outcome
   settle-done (bad x) E same q t m end r tx′ nd′ tx₁ rs₁ nd₁ h l k w z₁ z₂ z₃ = let z : _≡_ {A = ℕ} 0 1 = cc in absurd (omega arith)
   settle-done (got tr o) E same q t m end r tx′ nd′ tx₁ rs₁ nd₁ h l k w z₁ z₂ z₃ =
       let e : t ≡ length (texts tr) = cc in
@@ -64,33 +64,33 @@ module _ (tx rs nd : List ℕ) where
       let b : ltb (length nd) (size tr * width) ≡ false = le-ltb (length nd) (size tr * width) (omega arith) in
       let v : Agrees (outcome (got tr o) tx 0 nd 0 (0, 0) 0) end r tx′ nd′ = rw (same tr o refl) at w in
       let x : tx₁ ≡ filled tx (texts tr) = z₁ ∙ rw (v .1, e) (filled-steps tx (texts tr) (omega arith)) in
-      let N = rows (placed tr 0) 0 (0, 0) 0 in
+      let N = nodesOf (placed tr 0) 0 (0, 0) 0 in
       let n : length N ≡ size tr * width = length-placed tr 0 0 (0, 0) 0 in
       let y : nd₁ ≡ filled nd N = z₃ ∙ rw (v .2, f, ← n) (filled-steps nd N (omega arith)) in
       let u : rs₁ ≡ filled rs [] = z₂ ∙ filled-steps rs [] (omega arith) in
       rw (a, b, g, x, y, u) refl
 
   module _ (max limit : ℕ) (s : List ℕ) where
-    abbrev Decoded : Left → Type 0
+    abbrev Decoded : DecodedDesc → Type 0
     Decoded x = x ≡ decodeDesc max limit s tx rs nd
 
-    pub decode-large : max < length s → Decoded (kept (BlockTooLarge (length s) max) tx rs nd)
+    pub decode-large : max < length s → Decoded (keptDesc (BlockTooLarge (length s) max) tx rs nd)
     unfolding decodeDesc
     decode-large h = rw (lt-ltb max (length s) h) refl
 
-    settles : length s ≤ max → settled (desc true limit limit s 0) tx rs nd ≡ decodeDesc max limit s tx rs nd
+    settles : length s ≤ max → settledDesc (desc true limit limit s 0) tx rs nd ≡ decodeDesc max limit s tx rs nd
     unfolding decodeDesc
     settles h = rw (le-ltb max (length s) h) refl
 
-    pub decode-bad : (e : Refusal) → length s ≤ max → measured (desc true limit limit s 0) ≡ NotRead e → Decoded (kept e tx rs nd)
+    pub decode-bad : (e : Refusal) → length s ≤ max → measured (desc true limit limit s 0) ≡ NotRead e → Decoded (keptDesc e tx rs nd)
     decode-bad e b h = settle-bad (desc true limit limit s 0) e h ∙ settles b
 
     pub decode-text : (q t m : ℕ) → length s ≤ max → measured (desc true limit limit s 0) ≡ Read q t m → length tx < t
-        → Decoded (kept (TooSmall Text t) tx rs nd)
+        → Decoded (keptDesc (TooSmall Text t) tx rs nd)
     decode-text q t m b h l = settle-text (desc true limit limit s 0) q t m h l ∙ settles b
 
     pub decode-nodes : (q t m : ℕ) → length s ≤ max → measured (desc true limit limit s 0) ≡ Read q t m → t ≤ length tx → length nd < m * width
-        → Decoded (kept (TooSmall Nodes (m * width)) tx rs nd)
+        → Decoded (keptDesc (TooSmall Nodes (m * width)) tx rs nd)
     decode-nodes q t m b h l k = settle-nodes (desc true limit limit s 0) q t m h l k ∙ settles b
 
     pub decode-done : (q t m end : ℕ) (r : Walked) (tx′ nd′ tx₁ rs₁ nd₁ : List ℕ)

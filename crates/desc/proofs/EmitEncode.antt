@@ -16,7 +16,7 @@ use Rattle.varint.specs.declared.error.Refusal.the-variants.{BlockTooLarge, Too
 use Rattle.varint.proofs.OutLaws.{out-refused, out-wrote}
 use Rattle.desc.specs.declared.write.Emitted.{Emitted}
 use Rattle.desc.specs.inner.Emission.{emission, told}
-use Rattle.desc.specs.Encoding.{heldIn, sent, encodeDesc}
+use Rattle.desc.specs.Encoding.{heldIn, sentDesc, encodeDesc}
 use Rattle.desc.specs.Printing.{print}
 use Rattle.desc.specs.Table.{table}
 use Rattle.desc.specs.Trees.{Tree}
@@ -25,13 +25,13 @@ use Rattle.desc.proofs.EmitWhole.{Whole, whole-stored}
 
 module _ (max limit : ℕ) (tx nd d : List ℕ) where
   pub encode-refused : (r : Refusal) → heldIn (table limit nd 0 0) tx ≡ lacks r → record { answer = NotWritten r; out = d } ≡ encodeDesc max limit tx nd d
-  unfolding encodeDesc sent
+  unfolding encodeDesc sentDesc
   encode-refused r h = rw h
 
   module _ (e a : ℕ) (w : Whole tx (table limit nd 0 0) e a) where
     sends : send max (print (w .tree)) d ≡ encodeDesc max limit tx nd d
-    unfolding encodeDesc sent
-    sends = ap (λ (H : Held (Tree (List ℕ))). sent max H d) (sym (w .is))
+    unfolding encodeDesc sentDesc
+    sends = ap (λ (H : Held (Tree (List ℕ))). sentDesc max H d) (sym (w .is))
 
     pub encode-big : max < a → record { answer = NotWritten (BlockTooLarge a max); out = d } ≡ encodeDesc max limit tx nd d
     unfolding send

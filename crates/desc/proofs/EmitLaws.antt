@@ -16,28 +16,28 @@ use Rattle.desc.specs.declared.write.Emitted.{Emitted}
 use Rattle.desc.specs.declared.write.Emitted.the-variants.{Done, Wrong}
 use Rattle.desc.specs.Emitting.{Pen, putNumber, putWhere, putLabel, putTree, putKids}
 use Rattle.desc.specs.inner.Emission.{Emission, wrong, done, emission, told}
-use Rattle.desc.specs.Layout.{Span}
+use Rattle.desc.specs.Layout.{NameSpan}
 use Rattle.desc.specs.Table.{cell, nodeFits, isBranch, kidsAt, closedAt, table}
 use Rattle.desc.specs.Trees.{Tree, leaf, Kids, more, kidCount}
 use Rattle.desc.proofs.TableCells.{fits-not}
 use Rattle.desc.proofs.TableKids.{kid-count}
 
 -- what writing the children that are left does to the buffer
-unfoldable pub kidsEmission : List ℕ → ℕ → Got (Kids Span) → Pen → Emission
+unfoldable pub kidsEmission : List ℕ → ℕ → Got (Kids NameSpan) → Pen → Emission
 kidsEmission tx tag (got ks next) s = done next (putKids tx tag ks s)
 kidsEmission tx tag (bad e) s = wrong
 
-module _ (tx : List ℕ) (tag : ℕ) (name : Span) (d : ℕ) (s : Pen) where
-  more-law : (t : Tree Span) (K : Got (Kids Span))
+module _ (tx : List ℕ) (tag : ℕ) (name : NameSpan) (d : ℕ) (s : Pen) where
+  more-law : (t : Tree NameSpan) (K : Got (Kids NameSpan))
       → kidsEmission tx tag (then K (λ ks f. got (more name d t ks) f)) s ≡ kidsEmission tx tag K (putTree tx t (putLabel tx tag name d s))
   unfolding kidsEmission putKids
   more-law t (got ks f) = refl
   more-law t (bad e) = refl
 
-  abbrev first : Got (Tree Span) → (ℕ → Got (Kids Span)) → Got (Kids Span)
+  abbrev first : Got (Tree NameSpan) → (ℕ → Got (Kids NameSpan)) → Got (Kids NameSpan)
   first D K = then D (λ t e. then (K e) (λ ks f. got (more name d t ks) f))
 
-  first-done : (D : Got (Tree Span)) (K : ℕ → Got (Kids Span)) (m : ℕ) (s₂ : Pen) → done m s₂ ≡ emission tx D (putLabel tx tag name d s)
+  first-done : (D : Got (Tree NameSpan)) (K : ℕ → Got (Kids NameSpan)) (m : ℕ) (s₂ : Pen) → done m s₂ ≡ emission tx D (putLabel tx tag name d s)
       → kidsEmission tx tag (first D K) s ≡ kidsEmission tx tag (K m) s₂
   unfolding emission
   first-done (got t e) K m s₂ h =
@@ -46,12 +46,12 @@ module _ (tx : List ℕ) (tag : ℕ) (name : Span) (d : ℕ) (s : Pen) where
       rw (p, q) (more-law t (K e))
   first-done (bad e) K m s₂ h = let z : _≡_ {A = ℕ} 0 1 = cc in absurd (omega arith)
 
-  first-wrong : (D : Got (Tree Span)) (K : ℕ → Got (Kids Span)) → wrong ≡ emission tx D (putLabel tx tag name d s) → kidsEmission tx tag (first D K) s ≡ wrong
+  first-wrong : (D : Got (Tree NameSpan)) (K : ℕ → Got (Kids NameSpan)) → wrong ≡ emission tx D (putLabel tx tag name d s) → kidsEmission tx tag (first D K) s ≡ wrong
   unfolding emission kidsEmission
   first-wrong (got t e) K h = let z : _≡_ {A = ℕ} 0 1 = cc in absurd (omega arith)
   first-wrong (bad e) K h = refl
 
-module _ (r : ℕ → ℕ → Got (Tree Span)) (tx nd : List ℕ) (tag count i m : ℕ) (s s₁ : Pen) (R : Emitted) (o : List ℕ) (less : i < count)
+module _ (r : ℕ → ℕ → Got (Tree NameSpan)) (tx nd : List ℕ) (tag count i m : ℕ) (s s₁ : Pen) (R : Emitted) (o : List ℕ) (less : i < count)
     (label : s₁ ≡ putLabel tx tag (cell nd m 1, cell nd m 2) (cell nd m 3) s) (is : told R o ≡ emission tx (r m tag) s₁) where
   pub turn-done : (m₂ a₂ : ℕ) → R ≡ Done m₂ a₂
       → kidsEmission tx tag (kidsAt r nd tag (count - i) m) s ≡ kidsEmission tx tag (kidsAt r nd tag (count - (i + 1)) m₂) (record { out = o; place = a₂ })
@@ -94,19 +94,19 @@ unfolding table
 deeper zero nd n parent h = absurd (h refl)
 deeper (suc d) nd n parent h = let e : suc d - 1 ≡ d = omega arith in rw e refl
 
-kids-wrong : (tx : List ℕ) (tag end : ℕ) (K : Got (Kids Span)) (s s₁ : Pen) → kidsEmission tx tag K s₁ ≡ wrong → wrong ≡ emission tx (closedAt tag end K) s
+kids-wrong : (tx : List ℕ) (tag end : ℕ) (K : Got (Kids NameSpan)) (s s₁ : Pen) → kidsEmission tx tag K s₁ ≡ wrong → wrong ≡ emission tx (closedAt tag end K) s
 unfolding kidsEmission emission
 kids-wrong tx tag end (got ks m) s s₁ h = let z : _≡_ {A = ℕ} 0 1 = cc in absurd (omega arith)
 kids-wrong tx tag end (bad e) s s₁ h = refl
 
-kids-open : (tx : List ℕ) (tag end : ℕ) (K : Got (Kids Span)) (m : ℕ) (s s₁ s₂ : Pen) → kidsEmission tx tag K s₁ ≡ done m s₂ → (end ≡ m → ⊥)
+kids-open : (tx : List ℕ) (tag end : ℕ) (K : Got (Kids NameSpan)) (m : ℕ) (s s₁ s₂ : Pen) → kidsEmission tx tag K s₁ ≡ done m s₂ → (end ≡ m → ⊥)
     → wrong ≡ emission tx (closedAt tag end K) s
 unfolding kidsEmission emission
 kids-open tx tag end (got ks e) m s s₁ s₂ h q = let p : m ≡ e = cc in rw (ne-eqb end e (λ x. q (x ∙ sym p)))
 kids-open tx tag end (bad e) m s s₁ s₂ h q = refl
 
-kids-closed : (tx : List ℕ) (tag end count : ℕ) (K : Got (Kids Span)) (m : ℕ) (s s₁ s₂ : Pen)
-    → ((ks : Kids Span) (e : ℕ) → K ≡ got ks e → kidCount ks ≡ count)
+kids-closed : (tx : List ℕ) (tag end count : ℕ) (K : Got (Kids NameSpan)) (m : ℕ) (s s₁ s₂ : Pen)
+    → ((ks : Kids NameSpan) (e : ℕ) → K ≡ got ks e → kidCount ks ≡ count)
     → kidsEmission tx tag K s₁ ≡ done m s₂ → end ≡ m → s₁ ≡ putNumber count (putNumber tag s) → done m s₂ ≡ emission tx (closedAt tag end K) s
 unfolding kidsEmission emission putTree
 kids-closed tx tag end count (got ks e) m s s₁ s₂ c h q w =
@@ -147,7 +147,7 @@ module _ (tx nd : List ℕ) (d n parent : ℕ) (s : Pen) (o : List ℕ) where
   emit-leaf tag p place is w = rw (is, ← w)
 
   module _ (tag count : ℕ) (is : table d nd n parent ≡ closedAt tag (cell nd n 6) (kidsAt (table (d - 1) nd) nd tag count (n + 1))) (s₁ : Pen) where
-    abbrev kids : Got (Kids Span)
+    abbrev kids : Got (Kids NameSpan)
     kids = kidsAt (table (d - 1) nd) nd tag count (n + 1)
 
     pub emit-stopped : kidsEmission tx tag kids s₁ ≡ wrong → told Wrong o ≡ emission tx (table d nd n parent) s

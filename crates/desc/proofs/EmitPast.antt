@@ -12,7 +12,7 @@ use Rattle.varint.specs.Outs.{declared}
 use Rattle.varint.specs.Stores.{part}
 use Rattle.varint.proofs.StoreLaws.{sets-out}
 use Rattle.desc.specs.Emitting.{Pen, putBytes, putNumber, putWhere, putName, putLabel, putTree, putKids}
-use Rattle.desc.specs.Layout.{Span}
+use Rattle.desc.specs.Layout.{NameSpan}
 use Rattle.desc.specs.Trees.{Tree, leaf, branch, Kids, none, more, kidCount}
 use Rattle.desc.proofs.EmitPrint.{last}
 
@@ -29,7 +29,7 @@ module _ (o : List ℕ) (short : length o ≤ last) where
   unfolding putNumber putBytes
   number-past v s h = store-past (putU64 v) (length (putU64 v)) s (putNumber v s) h refl refl
 
-  name-past : (tx : List ℕ) (name : Span) (s : Pen) → Past o s → Past o (putName tx name s)
+  name-past : (tx : List ℕ) (name : NameSpan) (s : Pen) → Past o s → Past o (putName tx name s)
   unfolding putName
   name-past tx name s h = store-past (part tx (name .0) (name .1)) (name .1) s (putName tx name s) h refl refl
 
@@ -41,13 +41,13 @@ module _ (o : List ℕ) (short : length o ≤ last) where
   mutual
     unfolding putTree putLabel
 
-    pub tree-past : (tx : List ℕ) (t : Tree Span) (s : Pen) → Past o s → Past o (putTree tx t s)
+    pub tree-past : (tx : List ℕ) (t : Tree NameSpan) (s : Pen) → Past o s → Past o (putTree tx t s)
     tree-past tx (leaf tag p) s h = where-past (eqb tag 2) p (putNumber tag s) (number-past tag s h)
     tree-past tx (branch tag ks) s h =
         let s₁ = putNumber tag s in
         kids-past tx tag ks (putNumber (kidCount ks) s₁) (number-past (kidCount ks) s₁ (number-past tag s h))
 
-    kids-past : (tx : List ℕ) (tag : ℕ) (ks : Kids Span) (s : Pen) → Past o s → Past o (putKids tx tag ks s)
+    kids-past : (tx : List ℕ) (tag : ℕ) (ks : Kids NameSpan) (s : Pen) → Past o s → Past o (putKids tx tag ks s)
     kids-past tx tag none s h = h
     kids-past tx tag (more name d t ks) s h =
         let s₁ = putNumber (name .1) s in

@@ -19,7 +19,7 @@ use Rattle.varint.specs.Utf8.{utf8}
 use Rattle.varint.proofs.Basics.{pick-cases, below}
 use Rattle.varint.proofs.StoreLaws.{sets-append, sets-out, length-part}
 use Rattle.desc.specs.Emitting.{Pen, putBytes, putNumber, putWhere, putName, putLabel, putTree, putKids}
-use Rattle.desc.specs.Layout.{Span}
+use Rattle.desc.specs.Layout.{NameSpan}
 use Rattle.desc.specs.Printing.{print, printKids}
 use Rattle.desc.specs.Table.{gather, gatherKids}
 use Rattle.desc.specs.Trees.{Tree, leaf, branch, Kids, none, more, kidCount}
@@ -88,11 +88,11 @@ name-is tx start len =
     (λ u. tt))
 
 -- what is written of a tree, and of children of any type; how many children there are
-abbrev TreeIs : List ℕ → Tree Span → Held (Tree (List ℕ)) → Type 0
+abbrev TreeIs : List ℕ → Tree NameSpan → Held (Tree (List ℕ)) → Type 0
 TreeIs tx t (held u) = (s : Pen) → Roomy s → putTree tx t s ≡ putBytes (print u) s
 TreeIs tx t (lacks e) = Unit
 
-abbrev pub KidsAre : List ℕ → Kids Span → Held (Kids (List ℕ)) → Type 0
+abbrev pub KidsAre : List ℕ → Kids NameSpan → Held (Kids (List ℕ)) → Type 0
 KidsAre tx ks (held l) = (kidCount ks ≡ kidCount l) × ((tag : ℕ) (s : Pen) → Roomy s → putKids tx tag ks s ≡ putBytes (printKids tag l) s)
 KidsAre tx ks (lacks e) = Unit
 
@@ -109,7 +109,7 @@ four a b c d s h =
     let r = roomy-put a s h in
     two c d (putBytes b (putBytes a s)) (roomy-put b (putBytes a s) r) ∙ two b (c ++ d) (putBytes a s) r ∙ two a (b ++ (c ++ d)) s h
 
-more-is : (tx : List ℕ) (start len d : ℕ) (t : Tree Span) (ks : Kids Span) (N : Held (List ℕ)) (T : Held (Tree (List ℕ))) (K : Held (Kids (List ℕ)))
+more-is : (tx : List ℕ) (start len d : ℕ) (t : Tree NameSpan) (ks : Kids NameSpan) (N : Held (List ℕ)) (T : Held (Tree (List ℕ))) (K : Held (Kids (List ℕ)))
     → NameIs tx start len N → TreeIs tx t T → KidsAre tx ks K
     → KidsAre tx (more (start, len) d t ks) (thenHeld N (λ x. thenHeld T (λ u. thenHeld K (λ l. held (more x d u l)))))
 unfolding kidCount putKids printKids
@@ -127,7 +127,7 @@ more-is tx start len d t ks (held x) (held u) (lacks e) n p q = tt
 more-is tx start len d t ks (held x) (lacks e) K n p q = tt
 more-is tx start len d t ks (lacks e) T K n p q = tt
 
-branch-is : (tx : List ℕ) (tag : ℕ) (ks : Kids Span) (K : Held (Kids (List ℕ))) → KidsAre tx ks K → TreeIs tx (branch tag ks) (thenHeld K (λ l. held (branch tag l)))
+branch-is : (tx : List ℕ) (tag : ℕ) (ks : Kids NameSpan) (K : Held (Kids (List ℕ))) → KidsAre tx ks K → TreeIs tx (branch tag ks) (thenHeld K (λ l. held (branch tag l)))
 unfolding putTree print putNumber
 branch-is tx tag ks (lacks e) q = tt
 branch-is tx tag ks (held l) q =
@@ -150,15 +150,15 @@ no-kids-are tx = (refl, λ tag s h. nothing s h)
 mutual
   unfolding gather
 
-  tree-is : (tx : List ℕ) (t : Tree Span) → TreeIs tx t (gather tx t)
+  tree-is : (tx : List ℕ) (t : Tree NameSpan) → TreeIs tx t (gather tx t)
   tree-is tx (leaf tag p) = leaf-is tx tag p
   tree-is tx (branch tag ks) = branch-is tx tag ks (gatherKids tx ks) (kids-are tx ks)
 
-  pub kids-are : (tx : List ℕ) (ks : Kids Span) → KidsAre tx ks (gatherKids tx ks)
+  pub kids-are : (tx : List ℕ) (ks : Kids NameSpan) → KidsAre tx ks (gatherKids tx ks)
   kids-are tx none = no-kids-are tx
   kids-are tx (more name d t ks) =
       more-is tx (name .0) (name .1) d t ks (nameHeld tx (name .0) (name .1)) (gather tx t) (gatherKids tx ks) (name-is tx (name .0) (name .1)) (tree-is tx t) (kids-are tx ks)
 
 -- what is written of a tree whose names are all there
-pub put-print : (tx : List ℕ) (t : Tree Span) (u : Tree (List ℕ)) (s : Pen) → gather tx t ≡ held u → Roomy s → putTree tx t s ≡ putBytes (print u) s
+pub put-print : (tx : List ℕ) (t : Tree NameSpan) (u : Tree (List ℕ)) (s : Pen) → gather tx t ≡ held u → Roomy s → putTree tx t s ≡ putBytes (print u) s
 put-print tx t u s e h = (rw e at (tree-is tx t)) s h

@@ -14,7 +14,7 @@ use Rattle.desc.specs.declared.write.Emitted.{Emitted}
 use Rattle.desc.specs.declared.write.Emitted.the-variants.{Done, Wrong}
 use Rattle.desc.specs.Emitting.{Pen, putBytes, putNumber, putWhere, putName, putLabel, putTree, putKids, spanSize, kidsSpan, sized}
 use Rattle.desc.specs.inner.Emission.{emission, told}
-use Rattle.desc.specs.Layout.{Span}
+use Rattle.desc.specs.Layout.{NameSpan}
 use Rattle.desc.specs.Trees.{Tree, leaf, branch, Kids, none, more, kidCount}
 use Rattle.desc.proofs.EmitPrint.{last}
 
@@ -34,7 +34,7 @@ module _ (p : ℕ) where
   unfolding putNumber putBytes
   number-moved v n s h = on p n (length (putU64 v)) s (putNumber v s) h refl
 
-  name-moved : (tx : List ℕ) (name : Span) (n : ℕ) (s : Pen) → Moved p n s → Moved p (n + name .1) (putName tx name s)
+  name-moved : (tx : List ℕ) (name : NameSpan) (n : ℕ) (s : Pen) → Moved p n s → Moved p (n + name .1) (putName tx name s)
   unfolding putName
   name-moved tx name n s h = on p n (name .1) s (putName tx name s) h refl
 
@@ -46,7 +46,7 @@ module _ (p : ℕ) where
   mutual
     unfolding putTree putLabel spanSize
 
-    tree-moved : (tx : List ℕ) (t : Tree Span) (n : ℕ) (s : Pen) → Moved p n s → Moved p (n + spanSize t) (putTree tx t s)
+    tree-moved : (tx : List ℕ) (t : Tree NameSpan) (n : ℕ) (s : Pen) → Moved p n s → Moved p (n + spanSize t) (putTree tx t s)
     tree-moved tx (leaf tag q) n s h =
         let T = length (putU64 tag) in
         let Q = pick (eqb tag 2) (length (putU64 q)) 0 in
@@ -59,7 +59,7 @@ module _ (p : ℕ) where
         (kids-moved tx tag ks (n + T + C) (putNumber (kidCount ks) s₁) (number-moved (kidCount ks) (n + T) s₁ (number-moved tag n s h)))
         (omega arith)
 
-    kids-moved : (tx : List ℕ) (tag : ℕ) (ks : Kids Span) (n : ℕ) (s : Pen) → Moved p n s → Moved p (n + kidsSpan tag ks) (putKids tx tag ks s)
+    kids-moved : (tx : List ℕ) (tag : ℕ) (ks : Kids NameSpan) (n : ℕ) (s : Pen) → Moved p n s → Moved p (n + kidsSpan tag ks) (putKids tx tag ks s)
     kids-moved tx tag none n s h = add p n (n + 0) s h (omega arith)
     kids-moved tx tag (more name d t ks) n s h =
         let L = length (putU64 (name .1)) in
@@ -75,7 +75,7 @@ module _ (p : ℕ) where
         (omega arith)
 
 -- from a place of a buffer
-pub from-place : (tx : List ℕ) (t : Tree Span) (out : List ℕ) (at : ℕ) → at ≤ last
+pub from-place : (tx : List ℕ) (t : Tree NameSpan) (out : List ℕ) (at : ℕ) → at ≤ last
     → (putTree tx t (record { out = out; place = at })) .place ≡ declared (at + spanSize t)
 unfolding Moved
 from-place tx t out at h =
@@ -83,7 +83,7 @@ from-place tx t out at h =
     tree-moved at tx t 0 (record { out = out; place = at }) (omega arith) ∙ ap declared e
 
 -- what a writer that stores nowhere tells
-pub size-told : (tx : List ℕ) (D : Got (Tree Span)) (out : List ℕ) (R : Emitted) (o : List ℕ)
+pub size-told : (tx : List ℕ) (D : Got (Tree NameSpan)) (out : List ℕ) (R : Emitted) (o : List ℕ)
     → told R o ≡ emission tx D (record { out = out; place = 0 }) → R ≡ sized D
 unfolding told emission sized
 size-told tx (got t e) out (Done e₂ a) o h =

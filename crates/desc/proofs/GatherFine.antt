@@ -14,7 +14,7 @@ use Rattle.varint.specs.Utf8.{utf8}
 use Rattle.varint.proofs.Basics.{pick-cases}
 use Rattle.varint.proofs.StoreLaws.{length-part}
 use Rattle.desc.specs.Encoding.{heldIn}
-use Rattle.desc.specs.Layout.{Span}
+use Rattle.desc.specs.Layout.{NameSpan}
 use Rattle.desc.specs.Table.{table, gather, gatherKids}
 use Rattle.desc.specs.Trees.{Tree, leaf, branch, Kids, none, more, kidCount}
 use Rattle.desc.specs.WellFormed.{Fine, FineKids}
@@ -46,7 +46,7 @@ Parts tag depth n ks = (kidCount ks ≡ n) × FineKids TextOk tag depth ks
 mutual
   unfolding gather Fine kidCount
 
-  gather-fine : (st : Tree Span) (Ok : Span → Type 0) (depth : ℕ) (tx : List ℕ) → length tx < 2 ^ 64 → Fine Ok depth st
+  gather-fine : (st : Tree NameSpan) (Ok : NameSpan → Type 0) (depth : ℕ) (tx : List ℕ) → length tx < 2 ^ 64 → Fine Ok depth st
       → HeldAs (Fine TextOk depth) (gather tx st)
   gather-fine (leaf tag p) Ok zero tx h f = absurd f
   gather-fine (leaf tag p) Ok (suc depth) tx h f = f
@@ -55,7 +55,7 @@ mutual
       then-held (Parts tag depth (kidCount ks)) (Fine TextOk (suc depth)) (gatherKids tx ks) (λ l. held (branch tag l))
       (gather-kids ks Ok tag depth tx h (f .2)) (λ l g. (f .0, rw (g .0) (f .1), g .1))
 
-  gather-kids : (ks : Kids Span) (Ok : Span → Type 0) (tag depth : ℕ) (tx : List ℕ) → length tx < 2 ^ 64 → FineKids Ok tag depth ks
+  gather-kids : (ks : Kids NameSpan) (Ok : NameSpan → Type 0) (tag depth : ℕ) (tx : List ℕ) → length tx < 2 ^ 64 → FineKids Ok tag depth ks
       → HeldAs (Parts tag depth (kidCount ks)) (gatherKids tx ks)
   gather-kids none Ok tag depth tx h f = (refl, tt)
   gather-kids (more name d st ks) Ok tag depth tx h f =
@@ -73,7 +73,7 @@ pub tree-held : (limit : ℕ) (tx nd : List ℕ) (n : ℕ) → length tx < 2 ^ 6
 unfolding heldIn
 tree-held limit tx nd n h k = go (table limit nd n 0) (table-laid limit nd n 0)
   where
-    go : (x : Got (Tree Span)) → GotAs (Laid limit 0 nd n) x → HeldAs (Fine TextOk limit) (heldIn x tx)
+    go : (x : Got (Tree NameSpan)) → GotAs (Laid limit 0 nd n) x → HeldAs (Fine TextOk limit) (heldIn x tx)
     go (got st m) l = gather-fine st (λ _. Unit) limit tx h (l .fine k)
     go (bad i) l = tt
 

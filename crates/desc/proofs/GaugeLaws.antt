@@ -12,7 +12,7 @@ use Rattle.varint.proofs.PutLaws.{put-small}
 use Rattle.varint.proofs.StoreLaws.{sets-out}
 use Rattle.desc.specs.Emitting.{putBytes, putNumber, putName}
 use Rattle.desc.specs.inner.Emission.{nowhere}
-use Rattle.desc.specs.Layout.{Span}
+use Rattle.desc.specs.Layout.{NameSpan}
 use Rattle.desc.specs.Table.{cell, nodeFits}
 use Rattle.desc.proofs.NodeFits.{fits}
 
@@ -30,6 +30,6 @@ module _ (at r : ℕ) where
       let s : cell nd n 0 < 128 = omega arith in
       number-gauged (cell nd n 0) 1 (rw (put-small (cell nd n 0) s)) h
 
-  pub name-gauged : (name : Span) → r ≡ declared (at + name .1) → nowhere r ≡ putName [] name (nowhere at)
+  pub name-gauged : (name : NameSpan) → r ≡ declared (at + name .1) → nowhere r ≡ putName [] name (nowhere at)
   unfolding putName
   name-gauged name h = λ i. record { out = sym (sets-out (part [] (name .0) (name .1)) [] at (omega arith)) i; place = h i }

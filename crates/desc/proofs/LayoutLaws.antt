@@ -4,7 +4,7 @@ use mathlib.Core.List.{List}
 use Prim.Native.Nat.{ℕ, suc, _+_, _*_}
 use native.Mathlib.Omega.{arith}
 use lib.ListN.{length, length-append}
-use Rattle.desc.specs.Layout.{Span, width, texts, placed, placedKids, rows, kidRows}
+use Rattle.desc.specs.Layout.{NameSpan, width, texts, placed, placedKids, nodesOf, kidNodes}
 use Rattle.desc.specs.Trees.{Tree, leaf, branch, Kids, none, more, kidCount, size, kidSize}
 
 mutual
@@ -25,19 +25,19 @@ count-placed none t = refl
 count-placed (more name d tr ks) t = ap suc (count-placed ks (t + length name + length (texts tr)))
 
 mutual
-  unfolding rows size
+  unfolding nodesOf size
 
-  pub length-rows : (tr : Tree Span) (n : ℕ) (name : Span) (d : ℕ) → length (rows tr n name d) ≡ size tr * width
-  length-rows (leaf tag p) n name d = refl
-  length-rows (branch tag ks) n name d = let h = length-kidRows ks (n + 1) in simp length-append (omega arith)
+  pub length-nodes : (tr : Tree NameSpan) (n : ℕ) (name : NameSpan) (d : ℕ) → length (nodesOf tr n name d) ≡ size tr * width
+  length-nodes (leaf tag p) n name d = refl
+  length-nodes (branch tag ks) n name d = let h = length-kidNodes ks (n + 1) in simp length-append (omega arith)
 
-  pub length-kidRows : (ks : Kids Span) (m : ℕ) → length (kidRows ks m) ≡ kidSize ks * width
-  length-kidRows none m = refl
-  length-kidRows (more name d tr ks) m =
-      let h = length-rows tr m name d in
-      let k = length-kidRows ks (m + size tr) in
+  pub length-kidNodes : (ks : Kids NameSpan) (m : ℕ) → length (kidNodes ks m) ≡ kidSize ks * width
+  length-kidNodes none m = refl
+  length-kidNodes (more name d tr ks) m =
+      let h = length-nodes tr m name d in
+      let k = length-kidNodes ks (m + size tr) in
       simp length-append (omega arith)
 
 -- the numbers of a tree whose names are texts
-pub length-placed : (tr : Tree (List ℕ)) (t n : ℕ) (name : Span) (d : ℕ) → length (rows (placed tr t) n name d) ≡ size tr * width
-length-placed tr t n name d = length-rows (placed tr t) n name d ∙ ap (λ (k : ℕ). k * width) (size-placed tr t)
+pub length-placed : (tr : Tree (List ℕ)) (t n : ℕ) (name : NameSpan) (d : ℕ) → length (nodesOf (placed tr t) n name d) ≡ size tr * width
+length-placed tr t n name d = length-nodes (placed tr t) n name d ∙ ap (λ (k : ℕ). k * width) (size-placed tr t)

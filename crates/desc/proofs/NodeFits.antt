@@ -11,7 +11,7 @@ use lib.ListN.{length, getD}
 use lib.Seq.{sets, set-getD}
 use borrow.Author.Tests.{ltb-true, leb-true, eqb-true}
 use Rattle.varint.proofs.Basics.{both, clash}
-use Rattle.desc.specs.Layout.{Span, width, row}
+use Rattle.desc.specs.Layout.{NameSpan, width, nodeOf}
 use Rattle.desc.specs.Table.{cell, rootName, discriminantFits, predicateFits, isBranch, leafFits, nodeFits}
 use Rattle.desc.specs.WellFormed.{LeafOk, BranchOk, LabelOk}
 use Rattle.desc.proofs.TableRows.{Row}
@@ -30,10 +30,10 @@ same-run (a ∷ x) l base c h =
     let e : suc (base + c) ≡ base + suc c = omega arith in
     rw (← h .0, set-getD l (base + c) 0, e) (same-run x l base (suc c) (h .1))
 
-pub row-same : {nd : List ℕ} {n tag : ℕ} {name : Span} {d p count end : ℕ} → Row nd n tag name d p count end
-    → sets nd (n * width) (row tag (name .0) (name .1) d p count end) ≡ nd
+pub row-same : {nd : List ℕ} {n tag : ℕ} {name : NameSpan} {d p count end : ℕ} → Row nd n tag name d p count end
+    → sets nd (n * width) (nodeOf tag (name .0) (name .1) d p count end) ≡ nd
 row-same {nd} {n} {tag} {name} {d} {p} {count} {end} r =
-    let R : List ℕ = row tag (name .0) (name .1) d p count end in
+    let R : List ℕ = nodeOf tag (name .0) (name .1) d p count end in
     let t : There nd (n * width) 0 R =
     (r .tag-is, (r .start-is, (r .len-is, (r .discriminant-is, (r .predicate-is, (r .count-is, (r .end-is, tt))))))) in
     ap (λ (k : ℕ). sets nd k R) (sym (add-zero (n * width))) ∙ same-run R nd (n * width) 0 t
@@ -51,11 +51,11 @@ all-six true true true true false f h = clash h refl
 all-six true true true true true false h = clash h refl
 
 -- the discriminant of a part
-pub label-under : {tag d : ℕ} {name : Span} → BranchOk tag → Under tag name d → LabelOk tag d
+pub label-under : {tag d : ℕ} {name : NameSpan} → BranchOk tag → Under tag name d → LabelOk tag d
 label-under b (below l) = l
 
 -- the name of node n
-abbrev pub nameAt : List ℕ → ℕ → Span
+abbrev pub nameAt : List ℕ → ℕ → NameSpan
 nameAt nd n = (cell nd n 1, cell nd n 2)
 
 -- what is tested of a node

@@ -14,7 +14,7 @@ use Rattle.varint.proofs.Basics.{pick-both}
 use Rattle.desc.specs.declared.write.Names.{Names}
 use Rattle.desc.specs.declared.write.Names.the-variants.{Good, Refused}
 use Rattle.desc.specs.Emitting.{verdict, thenNames, namesFrom}
-use Rattle.desc.specs.Layout.{Span}
+use Rattle.desc.specs.Layout.{NameSpan}
 use Rattle.desc.specs.Table.{cell, nodeFits, isBranch, kidsAt, closedAt, table, gather, gatherKids}
 use Rattle.desc.specs.Trees.{Tree, leaf, branch, Kids, none, more, size, kidSize}
 
@@ -41,11 +41,11 @@ names-end tx nd m end h = let e : end - m ≡ 0 = omega arith in rw e
 -- The tree
 
 -- how many nodes stand below a node
-abbrev under : Tree Span → ℕ
+abbrev under : Tree NameSpan → ℕ
 under (leaf tag p) = 0
 under (branch tag ks) = kidSize ks
 
-size-under : (t : Tree Span) → size t ≡ suc (under t)
+size-under : (t : Tree NameSpan) → size t ≡ suc (under t)
 unfolding size
 size-under (leaf tag p) = refl
 size-under (branch tag ks) = refl
@@ -71,12 +71,12 @@ verdict-more (lacks e) b c d z = refl
 
 module _ (tx nd : List ℕ) where
   -- A tree whose root is node n: where it ends; and its names and those of the k nodes after it are names in a row.
-  abbrev TreeNames : ℕ → Got (Tree Span) → Type 0
+  abbrev TreeNames : ℕ → Got (Tree NameSpan) → Type 0
   TreeNames n (got t e) =
       (e ≡ n + size t) × ((k : ℕ) → namesFrom tx nd (n + 1) (under t + k) ≡ thenNames (verdict (gather tx t)) (namesFrom tx nd e k))
   TreeNames n (bad x) = x ≡ BadMessage Layout
 
-  abbrev KidNames : ℕ → Got (Kids Span) → Type 0
+  abbrev KidNames : ℕ → Got (Kids NameSpan) → Type 0
   KidNames m (got ks e) =
       (e ≡ m + kidSize ks) × ((k : ℕ) → namesFrom tx nd m (kidSize ks + k) ≡ thenNames (verdict (gatherKids tx ks)) (namesFrom tx nd e k))
   KidNames m (bad x) = x ≡ BadMessage Layout
@@ -85,7 +85,7 @@ module _ (tx nd : List ℕ) where
   unfolding kidSize gatherKids verdict thenNames
   no-kids m = (omega arith, λ k. rw zero-add)
 
-  one-kid : (m e f : ℕ) (t : Tree Span) (ks : Kids Span) → TreeNames m (got t e) → KidNames e (got ks f)
+  one-kid : (m e f : ℕ) (t : Tree NameSpan) (ks : Kids NameSpan) → TreeNames m (got t e) → KidNames e (got ks f)
       → KidNames m (got (more (cell nd m 1, cell nd m 2) (cell nd m 3) t ks) f)
   unfolding kidSize gatherKids namesFrom
   one-kid m e f t ks p q =
@@ -99,13 +99,13 @@ module _ (tx nd : List ℕ) where
             (verdict-more (nameHeld tx (cell nd m 1) (cell nd m 2)) (gather tx t) (gatherKids tx ks) (cell nd m 3) (namesFrom tx nd f k)),
       )
 
-  module _ (r : ℕ → ℕ → Got (Tree Span)) (h : (n parent : ℕ) → TreeNames n (r n parent)) where
-    kids-then : (tag m k : ℕ) → ((e : ℕ) → KidNames e (kidsAt r nd tag k e)) → (D : Got (Tree Span)) → TreeNames m D
+  module _ (r : ℕ → ℕ → Got (Tree NameSpan)) (h : (n parent : ℕ) → TreeNames n (r n parent)) where
+    kids-then : (tag m k : ℕ) → ((e : ℕ) → KidNames e (kidsAt r nd tag k e)) → (D : Got (Tree NameSpan)) → TreeNames m D
         → KidNames m (then D (λ t e. then (kidsAt r nd tag k e) (λ ks f. got (more (cell nd m 1, cell nd m 2) (cell nd m 3) t ks) f)))
     kids-then tag m k rest (bad x) p = p
     kids-then tag m k rest (got t e) p = go (kidsAt r nd tag k e) (rest e)
       where
-        go : (K : Got (Kids Span)) → KidNames e K → KidNames m (then K (λ ks f. got (more (cell nd m 1, cell nd m 2) (cell nd m 3) t ks) f))
+        go : (K : Got (Kids NameSpan)) → KidNames e K → KidNames m (then K (λ ks f. got (more (cell nd m 1, cell nd m 2) (cell nd m 3) t ks) f))
         go (bad x) q = q
         go (got ks f) q = one-kid m e f t ks p q
 
@@ -114,7 +114,7 @@ module _ (tx nd : List ℕ) where
     kid-names tag zero m = no-kids m
     kid-names tag (suc k) m = kids-then tag m k (kid-names tag k) (r m tag) (h m tag)
 
-  closed-names : (n tag end : ℕ) (K : Got (Kids Span)) → KidNames (n + 1) K → TreeNames n (closedAt tag end K)
+  closed-names : (n tag end : ℕ) (K : Got (Kids NameSpan)) → KidNames (n + 1) K → TreeNames n (closedAt tag end K)
   unfolding size gather
   closed-names n tag end (bad x) q = q
   closed-names n tag end (got ks m) q =
@@ -140,7 +140,7 @@ module _ (tx nd : List ℕ) where
   pub table-bad : (d n parent : ℕ) (x : Refusal) → table d nd n parent ≡ bad x → x ≡ BadMessage Layout
   table-bad d n parent x h = rw h at (table-names d n parent)
 
-  pub table-verdict : (d n parent e : ℕ) (t : Tree Span) → table d nd n parent ≡ got t e → namesFrom tx nd (n + 1) (e - (n + 1)) ≡ verdict (gather tx t)
+  pub table-verdict : (d n parent e : ℕ) (t : Tree NameSpan) → table d nd n parent ≡ got t e → namesFrom tx nd (n + 1) (e - (n + 1)) ≡ verdict (gather tx t)
   unfolding namesFrom
   table-verdict d n parent e t h =
       let p : TreeNames n (got t e) = rw h at (table-names d n parent) in

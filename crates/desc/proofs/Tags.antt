@@ -8,13 +8,13 @@ use lib.Dec.{leb, eqb}
 use borrow.Author.Tests.{leb-true, eqb-true, eqb-false}
 use Rattle.varint.specs.Choice.{pick}
 use Rattle.varint.proofs.Basics.{clash}
-use Rattle.desc.specs.Layout.{Span}
+use Rattle.desc.specs.Layout.{NameSpan}
 use Rattle.desc.specs.WellFormed.{LeafOk, int, string, fact, bytes, BranchOk, record-type, union-type, LabelOk, field, alternative}
 
 -- a node's name and discriminant, by the tag of the type that it is a part of, 0 for none
-pub data Under : ℕ → Span → ℕ → Type 0 where
+pub data Under : ℕ → NameSpan → ℕ → Type 0 where
   root : Under 0 (0, 0) 0
-  below : {tag d : ℕ} {name : Span} → LabelOk tag d → Under tag name d
+  below : {tag d : ℕ} {name : NameSpan} → LabelOk tag d → Under tag name d
 
 -- a tag that is known, and neither of a fact nor of a type with parts
 pub plain-leaf : (tag : ℕ) → tag ≤ 5 → tag ≢ 2 → tag ≢ 3 → tag ≢ 4 → LeafOk tag 0

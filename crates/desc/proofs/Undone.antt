@@ -21,8 +21,8 @@ use Rattle.varint.specs.declared.error.Refusal.{Refusal}
 use Rattle.varint.proofs.Basics.{pick-cases}
 use Rattle.varint.proofs.StoreLaws.{filled-fits, part-seam}
 use Rattle.desc.specs.declared.DescAnswer.the-variants.{Accepted, Refused}
-use Rattle.desc.specs.Decoding.{Left, settled, decodeDesc}
-use Rattle.desc.specs.Encoding.{heldIn, sent, encodeDesc}
+use Rattle.desc.specs.Decoding.{DecodedDesc, settledDesc, decodeDesc}
+use Rattle.desc.specs.Encoding.{heldIn, sentDesc, encodeDesc}
 use Rattle.desc.specs.Layout.{width, texts}
 use Rattle.desc.specs.Printing.{print}
 use Rattle.desc.specs.Reading.{desc}
@@ -43,18 +43,18 @@ stands-part x s q h =
 not-accepted : {X : Type 0} {e : Refusal} {n : ℕ} → Refused e ≡ Accepted n → X
 not-accepted h = let z : _≡_ {A = ℕ} 0 1 = cc in absurd (omega arith)
 
-abbrev Again : ℕ → ℕ → List ℕ → List ℕ → ℕ → Left → Type 0
+abbrev Again : ℕ → ℕ → List ℕ → List ℕ → ℕ → DecodedDesc → Type 0
 Again max limit s out used l = l .answer ≡ Accepted used → encodeDesc max limit (l .text) (l .nodes) out ≡ send max (part s 0 used) out
 
 -- Bytes that were accepted: the buffers as they were left are encoded to the bytes that were used, and to no others.
 pub encode-decoded : (max limit : ℕ) (s tx rs nd out : List ℕ) (used : ℕ) → Bytes s → decodeDesc max limit s tx rs nd .answer ≡ Accepted used
     → encodeDesc max limit (decodeDesc max limit s tx rs nd .text) (decodeDesc max limit s tx rs nd .nodes) out ≡ send max (part s 0 used) out
-unfolding decodeDesc settled
+unfolding decodeDesc settledDesc
 encode-decoded max limit s tx rs nd out used B =
     pick-cases (Again max limit s out used) (ltb max (length s)) (λ _. not-accepted)
     (λ _. on (desc true limit limit s 0) refl)
   where
-    on : (x : Got (Tree (List ℕ))) → desc true limit limit s 0 ≡ x → Again max limit s out used (settled x tx rs nd)
+    on : (x : Got (Tree (List ℕ))) → desc true limit limit s 0 ≡ x → Again max limit s out used (settledDesc x tx rs nd)
     on (bad e) i = not-accepted
     on (got tr q) i =
         pick-cases (Again max limit s out used) (ltb (length tx) (length (texts tr))) (λ _. not-accepted)
@@ -71,7 +71,7 @@ pub record Decodes (max limit : ℕ) (tx nd x : List ℕ) : Type 0 where
   pub tree : Tree (List ℕ)
   pub holds : heldIn (table limit nd 0 0) tx ≡ held tree
   pub bytes : x ≡ print tree
-  pub decodes : (tx′ rs nd′ : List ℕ) → decodeDesc max limit x tx′ rs nd′ ≡ settled (got tree (length x)) tx′ rs nd′
+  pub decodes : (tx′ rs nd′ : List ℕ) → decodeDesc max limit x tx′ rs nd′ ≡ settledDesc (got tree (length x)) tx′ rs nd′
 
 -- what was refused was not written
 pub not-wrote : {X : Type 0} {e : Refusal} {n : ℕ} → NotWritten e ≡ Wrote n → X
@@ -84,10 +84,10 @@ Written-is max limit tx nd n r = r .answer ≡ Wrote n → Decodes max limit tx 
 pub decode-written : (max limit : ℕ) (tx nd out : List ℕ) (n : ℕ) → length tx < 2 ^ 64 → length nd < 2 ^ 64
     → encodeDesc max limit tx nd out .answer ≡ Wrote n
     → Decodes max limit tx nd (part (encodeDesc max limit tx nd out .out) 0 n)
-unfolding encodeDesc sent send wrote
+unfolding encodeDesc sentDesc send wrote
 decode-written max limit tx nd out n a b = on (heldIn (table limit nd 0 0) tx) refl
   where
-    on : (x : Held (Tree (List ℕ))) → heldIn (table limit nd 0 0) tx ≡ x → Written-is max limit tx nd n (sent max x out)
+    on : (x : Held (Tree (List ℕ))) → heldIn (table limit nd 0 0) tx ≡ x → Written-is max limit tx nd n (sentDesc max x out)
     on (lacks e) i = not-wrote
     on (held tr) i =
         pick-cases (Written-is max limit tx nd n) (ltb max (length (print tr))) (λ _. not-wrote)

@@ -13,7 +13,7 @@ use Rattle.desc.specs.declared.head.Head.the-variants.{Leaf, Branch, Ref
 use Rattle.desc.specs.declared.Walked.{Walked}
 use Rattle.desc.specs.declared.Walked.the-variants.{Read, Refused as NotRead}
 use Rattle.desc.specs.Decoding.{storedAs}
-use Rattle.desc.specs.Layout.{Span, width, row, texts, placed, rows}
+use Rattle.desc.specs.Layout.{NameSpan, width, nodeOf, texts, placed, nodesOf}
 use Rattle.desc.specs.Reading.{headAt, children, descOn, desc}
 use Rattle.desc.specs.Trees.{size, kidCount}
 use Rattle.desc.specs.inner.Walking.{Outcome, refused, done, outcome, Agrees}
@@ -26,7 +26,7 @@ unfolding desc
 deeper check limit zero s at h = absurd (h refl)
 deeper check limit (suc depth) s at h = let e : suc depth - 1 ≡ depth = omega arith in rw e refl
 
-module _ (check : Bool) (limit depth : ℕ) (s : List ℕ) (at : ℕ) (tx : List ℕ) (t : ℕ) (nd : List ℕ) (n : ℕ) (name : Span) (d : ℕ) where
+module _ (check : Bool) (limit depth : ℕ) (s : List ℕ) (at : ℕ) (tx : List ℕ) (t : ℕ) (nd : List ℕ) (n : ℕ) (name : NameSpan) (d : ℕ) where
   abbrev Answers : Walked → List ℕ → List ℕ → Type 0
   Answers r tx′ nd′ = Agrees (outcome (desc check limit depth s at) tx t nd n name d) (length s) r tx′ nd′
 
@@ -43,8 +43,8 @@ module _ (check : Bool) (limit depth : ℕ) (s : List ℕ) (at : ℕ) (tx : List
   walk-bad e tx′ nd′ z h = rw (deeper check limit depth s at z, h) refl
 
   pub walk-leaf : (tag p q : ℕ) (nd′ : List ℕ) → (depth ≡ 0 → ⊥) → headAt s at ≡ Leaf tag p q → t + n ≤ at
-      → nd′ ≡ sets nd (n * width) (row tag (name .0) (name .1) d p 0 (n + 1)) → Answers (Read q t (n + 1)) tx nd′
-  unfolding Agrees outcome storedAs texts size placed rows
+      → nd′ ≡ sets nd (n * width) (nodeOf tag (name .0) (name .1) d p 0 (n + 1)) → Answers (Read q t (n + 1)) tx nd′
+  unfolding Agrees outcome storedAs texts size placed nodesOf
   walk-leaf tag p q nd′ z h b e =
       let i = leaf-inside s at tag p q h in
       let i₀ = i .0 in
@@ -59,8 +59,8 @@ module _ (check : Bool) (limit depth : ℕ) (s : List ℕ) (at : ℕ) (tx : List
   pub walk-read : (tag count q i p t′ m : ℕ) (tx′ nd′ nd″ : List ℕ) → (depth ≡ 0 → ⊥) → headAt s at ≡ Branch tag count q
       → whole tag count q ≡ outcomeKids (children (desc check limit (depth - 1) s) check s tag (count - i) p) i tx′ t′ nd′ m
       → count ≤ i → i ≤ count → t′ + m ≤ p → p ≤ length s
-      → nd″ ≡ sets nd′ (n * width) (row tag (name .0) (name .1) d 0 count m) → Answers (Read p t′ m) tx′ nd″
-  unfolding Agrees closeRow outcomeKids children texts size kidCount placed rows
+      → nd″ ≡ sets nd′ (n * width) (nodeOf tag (name .0) (name .1) d 0 count m) → Answers (Read p t′ m) tx′ nd″
+  unfolding Agrees closeRow outcomeKids children texts size kidCount placed nodesOf
   walk-read tag count q i p t′ m tx′ nd′ nd″ z h w l l′ b f e =
       let c : count - i ≡ 0 = omega arith in
       let k : count ≡ i = omega arith in

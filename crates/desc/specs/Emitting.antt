@@ -16,7 +16,7 @@ use Rattle.desc.specs.declared.write.Emitted.{Emitted}
 use Rattle.desc.specs.declared.write.Emitted.the-variants.{Done, Wrong}
 use Rattle.desc.specs.declared.write.Names.{Names}
 use Rattle.desc.specs.declared.write.Names.the-variants.{Good, Refused}
-use Rattle.desc.specs.Layout.{Span, startAt, lenAt}
+use Rattle.desc.specs.Layout.{NameSpan, startAt, lenAt}
 use Rattle.desc.specs.Table.{cell, rootName, discriminantFits, predicateFits, isBranch, leafFits, nodeFits, kidsAt, table}
 use Rattle.desc.specs.Trees.{Tree, leaf, branch, Kids, none, more, kidCount}
 
@@ -37,19 +37,19 @@ unfoldable pub putWhere : Bool → ℕ → Pen → Pen
 putWhere wanted v s = pick wanted (putNumber v s) s
 
 -- The bytes of a name as far as the text has them; the place moves on by the length that the table says.
-unfoldable pub putName : List ℕ → Span → Pen → Pen
+unfoldable pub putName : List ℕ → NameSpan → Pen → Pen
 putName tx name s = record { out = sets (s .out) (s .place) (part tx (name .0) (name .1)); place = declared (s .place + name .1) }
 
 -- what stands before a child of a type with this tag
-unfoldable pub putLabel : List ℕ → ℕ → Span → ℕ → Pen → Pen
+unfoldable pub putLabel : List ℕ → ℕ → NameSpan → ℕ → Pen → Pen
 putLabel tx tag name d s = putWhere (eqb tag 4) d (putName tx name (putNumber (name .1) s))
 
 unfoldable mutual
-  pub putTree : List ℕ → Tree Span → Pen → Pen
+  pub putTree : List ℕ → Tree NameSpan → Pen → Pen
   putTree tx (leaf tag p) s = putWhere (eqb tag 2) p (putNumber tag s)
   putTree tx (branch tag ks) s = putKids tx tag ks (putNumber (kidCount ks) (putNumber tag s))
 
-  pub putKids : List ℕ → ℕ → Kids Span → Pen → Pen
+  pub putKids : List ℕ → ℕ → Kids NameSpan → Pen → Pen
   putKids tx tag none s = s
   putKids tx tag (more name d t ks) s = putKids tx tag ks (putTree tx t (putLabel tx tag name d s))
 
@@ -58,24 +58,24 @@ pub record Put : Type 0 where
   pub answer : Emitted
   pub out : List ℕ
 
-unfoldable pub putDesc : List ℕ → Got (Tree Span) → Pen → Put
+unfoldable pub putDesc : List ℕ → Got (Tree NameSpan) → Pen → Put
 putDesc tx (got tr next) s = record { answer = Done next (putTree tx tr s .place); out = putTree tx tr s .out }
 putDesc tx (bad e) s = record { answer = Wrong; out = s .out }
 
 -- How many bytes a tree takes by the lengths that the table says
 
 unfoldable mutual
-  pub spanSize : Tree Span → ℕ
+  pub spanSize : Tree NameSpan → ℕ
   spanSize (leaf tag p) = length (putU64 tag) + pick (eqb tag 2) (length (putU64 p)) 0
   spanSize (branch tag ks) = length (putU64 tag) + (length (putU64 (kidCount ks)) + kidsSpan tag ks)
 
-  pub kidsSpan : ℕ → Kids Span → ℕ
+  pub kidsSpan : ℕ → Kids NameSpan → ℕ
   kidsSpan tag none = 0
   kidsSpan tag (more name d t ks) =
       length (putU64 (name .1)) + (name .1 + (pick (eqb tag 4) (length (putU64 d)) 0 + (spanSize t + kidsSpan tag ks)))
 
 -- the node after a tree, and its size
-unfoldable pub sized : Got (Tree Span) → Emitted
+unfoldable pub sized : Got (Tree NameSpan) → Emitted
 sized (got tr next) = Done next (declared (spanSize tr))
 sized (bad e) = Wrong
 

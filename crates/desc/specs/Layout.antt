@@ -7,8 +7,8 @@ use lib.ListN.{length}
 use Rattle.desc.specs.Trees.{Tree, leaf, branch, Kids, none, more, kidCount, size, kidSize, sample, sampleUnion}
 
 -- a place of the text: where it starts, and how long it is
-abbrev pub Span : Type 0
-Span = ℕ × ℕ
+abbrev pub NameSpan : Type 0
+NameSpan = ℕ × ℕ
 
 -- how many numbers a node has
 abbrev pub width : ℕ
@@ -37,8 +37,8 @@ abbrev pub endAt : ℕ
 endAt = 6
 
 -- a node's numbers, in the order of its columns
-abbrev pub row : (tag start len discriminant predicate count end : ℕ) → List ℕ
-row tag start len discriminant predicate count end = tag ∷ start ∷ len ∷ discriminant ∷ predicate ∷ count ∷ end ∷ []
+abbrev pub nodeOf : (tag start len discriminant predicate count end : ℕ) → List ℕ
+nodeOf tag start len discriminant predicate count end = tag ∷ start ∷ len ∷ discriminant ∷ predicate ∷ count ∷ end ∷ []
 
 unfoldable mutual
   -- "text holds the message's texts joined in reading order"
@@ -52,36 +52,36 @@ unfoldable mutual
 
 unfoldable mutual
   -- the tree with its names as places, where its texts are joined from place t on
-  pub placed : Tree (List ℕ) → ℕ → Tree Span
+  pub placed : Tree (List ℕ) → ℕ → Tree NameSpan
   placed (leaf tag p) t = leaf tag p
   placed (branch tag ks) t = branch tag (placedKids ks t)
 
-  pub placedKids : Kids (List ℕ) → ℕ → Kids Span
+  pub placedKids : Kids (List ℕ) → ℕ → Kids NameSpan
   placedKids none t = none
   placedKids (more name d tr ks) t =
       more (t, length name) d (placed tr (t + length name)) (placedKids ks (t + length name + length (texts tr)))
 
 unfoldable mutual
   -- the nodes of a tree whose root is node n and has this name and discriminant: "a root's name is 0, 0"
-  pub rows : Tree Span → ℕ → Span → ℕ → List ℕ
-  rows (leaf tag p) n name d = row tag (name .0) (name .1) d p 0 (n + 1)
-  rows (branch tag ks) n name d = row tag (name .0) (name .1) d 0 (kidCount ks) (n + 1 + kidSize ks) ++ kidRows ks (n + 1)
+  pub nodesOf : Tree NameSpan → ℕ → NameSpan → ℕ → List ℕ
+  nodesOf (leaf tag p) n name d = nodeOf tag (name .0) (name .1) d p 0 (n + 1)
+  nodesOf (branch tag ks) n name d = nodeOf tag (name .0) (name .1) d 0 (kidCount ks) (n + 1 + kidSize ks) ++ kidNodes ks (n + 1)
 
   -- of children, the first of which is node m
-  pub kidRows : Kids Span → ℕ → List ℕ
-  kidRows none m = []
-  kidRows (more name d tr ks) m = rows tr m name d ++ kidRows ks (m + size tr)
+  pub kidNodes : Kids NameSpan → ℕ → List ℕ
+  kidNodes none m = []
+  kidNodes (more name d tr ks) m = nodesOf tr m name d ++ kidNodes ks (m + size tr)
 
 example-texts : texts sample ≡ 0x61 ∷ 0x62 ∷ 0x63 ∷ []
 unfolding texts
 example-texts = refl
 
 -- the record, its int named by the text's first byte, its fact by the two behind it
-example-nodes : rows (placed sample 0) 0 (0, 0) 0 ≡ row 3 0 0 0 0 2 3 ++ (row 0 0 1 0 0 0 2 ++ row 2 1 2 0 7 0 3)
-unfolding rows placed texts size kidCount
+example-nodes : nodesOf (placed sample 0) 0 (0, 0) 0 ≡ nodeOf 3 0 0 0 0 2 3 ++ (nodeOf 0 0 1 0 0 0 2 ++ nodeOf 2 1 2 0 7 0 3)
+unfolding nodesOf placed texts size kidCount
 example-nodes = refl
 
 -- the same behind two nodes and four bytes of text
-example-behind : rows (placed sampleUnion 4) 2 (0, 0) 0 ≡ row 4 0 0 0 0 1 4 ++ row 5 4 1 9 0 0 4
-unfolding rows placed texts size kidCount
+example-behind : nodesOf (placed sampleUnion 4) 2 (0, 0) 0 ≡ nodeOf 4 0 0 0 0 1 4 ++ nodeOf 5 4 1 9 0 0 4
+unfolding nodesOf placed texts size kidCount
 example-behind = refl

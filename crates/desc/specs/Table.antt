@@ -11,7 +11,7 @@ use Rattle.varint.specs.Formats.{Got, got, bad, then}
 use Rattle.varint.specs.Gathering.{Held, held, thenHeld, nameHeld}
 use Rattle.varint.specs.declared.error.Fault.the-variants.{Layout}
 use Rattle.varint.specs.declared.error.Refusal.the-variants.{BadMessage}
-use Rattle.desc.specs.Layout.{Span, width, tagAt, startAt, lenAt, discriminantAt, predicateAt, countAt, endAt}
+use Rattle.desc.specs.Layout.{NameSpan, width, tagAt, startAt, lenAt, discriminantAt, predicateAt, countAt, endAt}
 use Rattle.desc.specs.Trees.{Tree, leaf, branch, Kids, none, more}
 
 -- the number in column c of node n
@@ -45,17 +45,17 @@ nodeFits nd n parent =
     && (isBranch nd n || leafFits nd n)
 
 -- k children of a type with this tag, the first of which is node m, where `r` reads a tree at a node below a parent
-unfoldable pub kidsAt : (ℕ → ℕ → Got (Tree Span)) → List ℕ → ℕ → ℕ → ℕ → Got (Kids Span)
+unfoldable pub kidsAt : (ℕ → ℕ → Got (Tree NameSpan)) → List ℕ → ℕ → ℕ → ℕ → Got (Kids NameSpan)
 kidsAt r nd tag zero m = got none m
 kidsAt r nd tag (suc k) m =
     then (r m tag) (λ t e. then (kidsAt r nd tag k e) (λ ks f. got (more (cell nd m startAt, cell nd m lenAt) (cell nd m discriminantAt) t ks) f))
 
-abbrev pub closedAt : ℕ → ℕ → Got (Kids Span) → Got (Tree Span)
+abbrev pub closedAt : ℕ → ℕ → Got (Kids NameSpan) → Got (Tree NameSpan)
 closedAt tag end (got ks m) = pick (eqb end m) (got (branch tag ks) m) (bad (BadMessage Layout))
 closedAt tag end (bad e) = bad e
 
 -- The tree at node n below a parent with this tag, where `depth` more levels may nest; and the node after it.
-unfoldable pub table : ℕ → List ℕ → ℕ → ℕ → Got (Tree Span)
+unfoldable pub table : ℕ → List ℕ → ℕ → ℕ → Got (Tree NameSpan)
 table zero nd n parent = bad (BadMessage Layout)
 table (suc depth) nd n parent =
     pick (nodeFits nd n parent)
@@ -66,11 +66,11 @@ table (suc depth) nd n parent =
 
 unfoldable mutual
   -- the tree with its names taken out of the text, in reading order
-  pub gather : List ℕ → Tree Span → Held (Tree (List ℕ))
+  pub gather : List ℕ → Tree NameSpan → Held (Tree (List ℕ))
   gather tx (leaf tag p) = held (leaf tag p)
   gather tx (branch tag ks) = thenHeld (gatherKids tx ks) (λ l. held (branch tag l))
 
-  pub gatherKids : List ℕ → Kids Span → Held (Kids (List ℕ))
+  pub gatherKids : List ℕ → Kids NameSpan → Held (Kids (List ℕ))
   gatherKids tx none = held none
   gatherKids tx (more name d t ks) =
       thenHeld (nameHeld tx (name .0) (name .1)) (λ x. thenHeld (gather tx t) (λ u. thenHeld (gatherKids tx ks) (λ l. held (more x d u l))))

@@ -4,13 +4,13 @@ use mathlib.Core.List.{List, [], _∷_, _++_}
 use Prim.Native.Nat.{ℕ}
 use Rattle.varint.specs.Formats.{Got, got, bad}
 use Rattle.varint.specs.Tried.{Line, refusedIn, varintLines}
-use Rattle.desc.specs.Layout.{placed, rows}
+use Rattle.desc.specs.Layout.{placed, nodesOf}
 use Rattle.desc.specs.Reading.{desc}
 use Rattle.desc.specs.Trees.{Tree}
 
 -- an answer in numbers: a refusal; or 0, the bytes used, and the nodes
 abbrev pub descIn : Got (Tree (List ℕ)) → List ℕ
-descIn (got tr next) = 0 ∷ next ∷ rows (placed tr 0) 0 (0, 0) 0
+descIn (got tr next) = 0 ∷ next ∷ nodesOf (placed tr 0) 0 (0, 0) 0
 descIn (bad r) = refusedIn r
 
 abbrev pub descLine : List ℕ → List ℕ → Line

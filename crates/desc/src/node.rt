@@ -2,7 +2,7 @@
 ghost use mathlib.Core.Path.{_≡_};
 ghost use Prim.Native.Nat.{_*_};
 ghost use lib.Seq.{sets};
-ghost use Rattle.desc.specs.Layout.{width, row};
+ghost use Rattle.desc.specs.Layout.{width, nodeOf};
 ghost use Rattle.desc.specs.Table.{cell};
 use varint::store::store_number;
 
@@ -35,7 +35,7 @@ pub(crate) fn store_node(
     count: u64,
     end: usize,
 )
-    ensures { λ _. ⌜ now (nodes .exit) ≡ sets (now (nodes .entry)) (n * width) (row tag start len discriminant predicate count end) ⌝ }
+    ensures { λ _. ⌜ now (nodes .exit) ≡ sets (now (nodes .entry)) (n * width) (nodeOf tag start len discriminant predicate count end) ⌝ }
 {
     if n < nodes.len() {
         let k = n * WIDTH;

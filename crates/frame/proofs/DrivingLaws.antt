@@ -17,7 +17,7 @@ use Rattle.frame.specs.declared.receiver.Outcome.the-variants.{More, Han
 use Rattle.frame.specs.Worlds.{Limits, World}
 use Rattle.frame.specs.Reading.{Verdict, refuse, gather, judge, Event, frame, halt, denied, Run, done, after}
 use Rattle.frame.specs.Offering.{Offer, headerHeld, payloadHeld, impossible, handed, loads, settles, takes, offering}
-use Rattle.frame.specs.Driving.{plus, Driven, onward, handing, later, drive, size, driving}
+use Rattle.frame.specs.Driving.{plus, Driven, onward, handing, later, drive, stepsIn, driving}
 use Rattle.frame.proofs.OfferUses.{Uses, offer-uses, offer-within, handed-uses}
 
 module _ (l : Limits) where
@@ -32,9 +32,9 @@ module _ (l : Limits) where
       ]
 
   -- the rest is smaller
-  module _ (f g : World → List (List ℕ) → Driven) (p : List ℕ) (ps : List (List ℕ)) (same : (w : World) (qs : List (List ℕ)) → size qs < size (p ∷ ps) → f w qs ≡ g w qs) where
+  module _ (f g : World → List (List ℕ) → Driven) (p : List ℕ) (ps : List (List ℕ)) (same : (w : World) (qs : List (List ℕ)) → stepsIn qs < stepsIn (p ∷ ps) → f w qs ≡ g w qs) where
     turns : (x : Outcome) (u : ℕ) (w : World) → Uses x u (length p) → turn f p ps (record { outcome = x; used = u; world = w }) ≡ turn g p ps (record { outcome = x; used = u; world = w })
-    unfolding turn size
+    unfolding turn stepsIn
     turns More u w h = ap (onward u) (same w ps (omega arith))
     turns (Handed hd a) u w h = ap (handing (frame hd a (w .lent)) u) (same w (drop u p ∷ ps) (rw length-drop (omega arith)))
     turns (Stopped e) u w h = refl
@@ -44,7 +44,7 @@ module _ (l : Limits) where
     turn-same w = turns (offering l w p .outcome) (offering l w p .used) (offering l w p .world) (offer-uses l w p)
 
   -- more steps than the pieces' size change nothing
-  drive-steps : (f g : ℕ) (w : World) (ps : List (List ℕ)) → size ps < f → size ps < g → drive l f w ps ≡ drive l g w ps
+  drive-steps : (f g : ℕ) (w : World) (ps : List (List ℕ)) → stepsIn ps < f → stepsIn ps < g → drive l f w ps ≡ drive l g w ps
   unfolding drive turn
   drive-steps zero g w ps h k = absurd (omega arith)
   drive-steps (suc f) zero w ps h k = absurd (omega arith)
@@ -59,7 +59,7 @@ module _ (l : Limits) where
   module _ (w : World) (p : List ℕ) (ps : List (List ℕ)) where
     driving-turn : driving l w (p ∷ ps) ≡ turn (driving l) p ps (offering l w p)
     unfolding driving drive turn
-    driving-turn = turn-same (drive l (size (p ∷ ps))) (driving l) p ps (λ v qs m. drive-steps (size (p ∷ ps)) (suc (size qs)) v qs m (omega arith)) w
+    driving-turn = turn-same (drive l (stepsIn (p ∷ ps))) (driving l) p ps (λ v qs m. drive-steps (stepsIn (p ∷ ps)) (suc (stepsIn qs)) v qs m (omega arith)) w
 
     pub driving-more : offering l w p .outcome ≡ More → driving l w (p ∷ ps) ≡ onward (offering l w p .used) (driving l (offering l w p .world) ps)
     unfolding turn

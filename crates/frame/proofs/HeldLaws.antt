@@ -7,7 +7,7 @@ use native.Mathlib.Omega.{arith}
 use lib.ListN.{length, take, drop, replicate, length-append, length-take, length-drop, length-replicate, replicate-append-replicate, drop-of-length-le}
 use lib.Seq.{take-all, drop-at}
 use Rattle.frame.specs.Worlds.{Limits, Setup, Lent, receiverOf, running, pad, fresh}
-use Rattle.frame.specs.Reading.{held}
+use Rattle.frame.specs.Reading.{holding}
 
 pub pad-length : (n : ℕ) (x : List ℕ) → length x ≤ n → length (pad n x) ≡ n
 unfolding pad
@@ -27,13 +27,13 @@ pad-over n x y h m =
     )
 
 module _ (l : Limits) (c : Setup) where
-  pub held-none : (b : Lent) → held l c [] b ≡ fresh c b
-  unfolding fresh held pad
+  pub held-none : (b : Lent) → holding l c [] b ≡ fresh c b
+  unfolding fresh holding pad
   held-none b = rw sub-zero
 
   pub held-head : (s : List ℕ) (b : Lent) → length s < 9
-      → held l c s b ≡ record { receiver = receiverOf c (s ++ replicate (9 - length s) 0) (length s) 0 running; hold = replicate (c .room) 0; lent = b }
-  unfolding held pad
+      → holding l c s b ≡ record { receiver = receiverOf c (s ++ replicate (9 - length s) 0) (length s) 0 running; hold = replicate (c .room) 0; lent = b }
+  unfolding holding pad
   held-head s b h =
       let t : take 9 s ≡ s = take-all 9 s (omega arith) in
       let d : drop 9 s ≡ [] = drop-of-length-le s {i = 9} (omega arith) in
@@ -41,12 +41,12 @@ module _ (l : Limits) (c : Setup) where
       let k : length s - 9 ≡ 0 = omega arith in
       rw (t, d, g, k, sub-zero)
 
-  pub held-load : (s : List ℕ) (b : Lent) → 9 ≤ length s → held l c s b ≡ record {
+  pub held-load : (s : List ℕ) (b : Lent) → 9 ≤ length s → holding l c s b ≡ record {
     receiver = receiverOf c (take 9 s) 9 (length s - 9) running;
     hold = drop 9 s ++ replicate (c .room - (length s - 9)) 0;
     lent = b;
   }
-  unfolding held pad
+  unfolding holding pad
   held-load s b h =
       let g : min 9 (length s) ≡ 9 = omega arith in
       rw (length-take, g, length-drop, append-nil)

@@ -13,9 +13,9 @@ use Rattle.varint.specs.Refusals.{codeOf}
 use Rattle.varint.specs.declared.error.Refusal.{Refusal}
 use Rattle.varint.proofs.Basics.{below}
 use Rattle.frame.specs.Worlds.{Limits, Setup, Lent, fresh}
-use Rattle.frame.specs.Reading.{Event, done, after, refuse, judge, lentBy, First, short, bad, whole, first, held, ended, answered}
+use Rattle.frame.specs.Reading.{Event, done, after, refuse, judge, lentBy, First, short, bad, whole, first, holding, stoppedAt, answered}
 use Rattle.frame.specs.Offering.{Offer, declined, stopOf}
-use Rattle.frame.specs.Driving.{plus, Driven, later, drive, size, driving}
+use Rattle.frame.specs.Driving.{plus, Driven, later, drive, stepsIn, driving}
 use Rattle.frame.specs.Runs.{behind, laterPieces}
 use Rattle.frame.proofs.HeldLaws.{held-none}
 use Rattle.frame.proofs.DrivingLaws.{turn}
@@ -74,7 +74,7 @@ module _ (d : Driven) (qs : List (List ℕ)) (e : Later qs d) (u : ℕ) (ps : Li
       (sym (same-else (eqb (d .run .world .receiver .progress .stop) 0) [] _ _ (λ s. behinds (e .used (eqb-false _ _ s)))))
 
 module _ (l : Limits) (c : Setup) where
-  module _ (f : ℕ) (ih : (h : List ℕ) (b : Lent) (ps : List (List ℕ)) → View l c h short → Later ps (drive l f (held l c h b) ps))
+  module _ (f : ℕ) (ih : (h : List ℕ) (b : Lent) (ps : List (List ℕ)) → View l c h short → Later ps (drive l f (holding l c h b) ps))
       (h : List ℕ) (b : Lent) (p : List ℕ) (ps : List (List ℕ)) (v : View l c h short) where
     Goal : Offer → Type 0
     Goal o = Later (p ∷ ps) (turn l (drive l f) p ps o)
@@ -82,17 +82,17 @@ module _ (l : Limits) (c : Setup) where
     at-short : View l c (h ++ p) short → Goal (step l c short h p b)
     unfolding Goal turn step plus
     at-short w =
-        let d : Driven = drive l f (held l c (h ++ p) b) ps in
+        let d : Driven = drive l f (holding l c (h ++ p) b) ps in
         let next = behind-next (d .run .used) p ps in
         record { used = used-more d ps (ih (h ++ p) b ps w) (length p) (p ∷ ps) next; again = again-more d ps (ih (h ++ p) b ps w) (length p) (p ∷ ps) next _ }
 
     at-bad : (e : Refusal) → 9 ≤ length (h ++ p) → judge l (c .room) (take 9 (h ++ p)) ≡ refuse e → Goal (step l c (bad e) h p b)
-    unfolding Goal turn step ended after done laterPieces behind
+    unfolding Goal turn step stoppedAt after done laterPieces behind
     at-bad e m d =
         let k : length h < 9 = early l c h p e v d in
         let z : codeOf e .number ≢ 0 = omega (arith, stop-number l (c .room) (take 9 (h ++ p)) e d) in
         let n : 9 - length h + 0 ≤ length p = omega (arith, length-append h p) in
-        rw (later-stopped l (ended l c (take 9 (h ++ p)) e b) (record { room = length-replicate (c .room) 0; stop = z }) ps)
+        rw (later-stopped l (stoppedAt l c (take 9 (h ++ p)) e b) (record { room = length-replicate (c .room) 0; stop = z }) ps)
         (record { used = λ _. omega arith; again = rw (ne-eqb _ _ z, le-leb _ _ n) })
 
     at-whole : (m : ℕ) → length h < 9 + m → 9 + m ≤ length (h ++ p) → Goal (step l c (whole m) h p b)
@@ -112,16 +112,16 @@ module _ (l : Limits) (c : Setup) where
     at x (v-bad {e} m d) = at-bad e m d
     at x (v-whole {n = m} k d) = at-whole m (room l c h p m v d) k
 
-    drive-next : Later (p ∷ ps) (drive l (suc f) (held l c h b) (p ∷ ps))
+    drive-next : Later (p ∷ ps) (drive l (suc f) (holding l c h b) (p ∷ ps))
     unfolding drive Goal turn
     drive-next = subst Goal (sym (offer-is l c h p b (first l c (h ++ p)) v (view l c (h ++ p)))) (at (first l c (h ++ p)) (view l c (h ++ p)))
 
   -- nothing stops where no offer is made
-  none-later : (h : List ℕ) (b : Lent) (ps : List (List ℕ)) → Later ps (record { run = done 0 (held l c h b); again = [] })
-  unfolding done held laterPieces
+  none-later : (h : List ℕ) (b : Lent) (ps : List (List ℕ)) → Later ps (record { run = done 0 (holding l c h b); again = [] })
+  unfolding done holding laterPieces
   none-later h b ps = record { used = λ s. absurd (s refl); again = refl }
 
-  pub drive-later : (f : ℕ) (h : List ℕ) (b : Lent) (ps : List (List ℕ)) → View l c h short → Later ps (drive l f (held l c h b) ps)
+  pub drive-later : (f : ℕ) (h : List ℕ) (b : Lent) (ps : List (List ℕ)) → View l c h short → Later ps (drive l f (holding l c h b) ps)
   unfolding drive
   drive-later zero h b ps v = none-later h b ps
   drive-later (suc f) h b [] v = none-later h b []
@@ -130,4 +130,4 @@ module _ (l : Limits) (c : Setup) where
   -- so from a fresh receiver
   pub driving-later : (ps : List (List ℕ)) (b : Lent) → Later ps (driving l (fresh c b) ps)
   unfolding driving
-  driving-later ps b = rw (← held-none l c b) (drive-later (suc (size ps)) [] b ps (none-short l c))
+  driving-later ps b = rw (← held-none l c b) (drive-later (suc (stepsIn ps)) [] b ps (none-short l c))

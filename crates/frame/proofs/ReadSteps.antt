@@ -8,16 +8,16 @@ use lib.Seq.{take-append-le, drop-append-le}
 use Rattle.varint.specs.Refusals.{codeOf}
 use Rattle.varint.specs.declared.error.Refusal.{Refusal}
 use Rattle.frame.specs.Worlds.{Limits, Setup, Lent}
-use Rattle.frame.specs.Reading.{halt, done, after, lentBy, short, bad, whole, held, ended, answered, frameOf, read}
+use Rattle.frame.specs.Reading.{halt, done, after, lentBy, short, bad, whole, holding, stoppedAt, answered, frameOf, read}
 use Rattle.frame.proofs.Firsts.{View, v-head, viewed}
 
 module _ (l : Limits) (c : Setup) where
-  pub read-short : (n : ℕ) (s : List ℕ) (b : Lent) → View l c s short → read l c (suc n) s b ≡ done (length s) (held l c s b)
+  pub read-short : (n : ℕ) (s : List ℕ) (b : Lent) → View l c s short → read l c (suc n) s b ≡ done (length s) (holding l c s b)
   unfolding read
   read-short n s b v = rw (viewed l c s v, read)
 
   pub read-bad : (n : ℕ) (s : List ℕ) (b : Lent) (e : Refusal) → View l c s (bad e)
-      → read l c (suc n) s b ≡ after (halt (codeOf e)) 9 (done 0 (ended l c (take 9 s) e b))
+      → read l c (suc n) s b ≡ after (halt (codeOf e)) 9 (done 0 (stoppedAt l c (take 9 s) e b))
   unfolding read
   read-bad n s b e v = rw (viewed l c s v, read)
 

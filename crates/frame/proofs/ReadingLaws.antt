@@ -10,9 +10,9 @@ use Rattle.varint.specs.Refusals.{codeOf}
 use Rattle.varint.specs.declared.error.Refusal.{Refusal}
 use Rattle.frame.specs.declared.receiver.Outcome.the-variants.{More}
 use Rattle.frame.specs.Worlds.{Limits, Setup, Lent}
-use Rattle.frame.specs.Reading.{halt, done, after, lentBy, First, short, bad, whole, first, held, ended, answered, frameOf, read, reading}
+use Rattle.frame.specs.Reading.{halt, done, after, lentBy, First, short, bad, whole, first, holding, stoppedAt, answered, frameOf, read, reading}
 use Rattle.frame.specs.Offering.{offering}
-use Rattle.frame.specs.Driving.{joined, size}
+use Rattle.frame.specs.Driving.{joined, stepsIn}
 use Rattle.frame.proofs.Firsts.{View, v-head, v-load, v-bad, v-whole, view, bad-stays, whole-stays, whole-fits}
 use Rattle.frame.proofs.OfferSteps.{step, offer-is}
 use Rattle.frame.proofs.ReadSteps.{read-short, read-bad, read-whole, answered-same, frame-same}
@@ -27,15 +27,15 @@ module _ (l : Limits) (c : Setup) where
   unfolding joined
   read-steps n m s b h k =
       let e : s ++ [] ≡ s = append-nil s in
-      let f : ℕ = suc (size (s ∷ [])) in
+      let f : ℕ = suc (stepsIn (s ∷ [])) in
       rw e at (sym (drive-fresh l c f n (s ∷ []) b (omega arith) (rw e h)) ∙ drive-fresh l c f m (s ∷ []) b (omega arith) (rw e k))
 
-  pub reading-short : (s : List ℕ) (b : Lent) → first l c s ≡ short → reading l c s b ≡ done (length s) (held l c s b)
+  pub reading-short : (s : List ℕ) (b : Lent) → first l c s ≡ short → reading l c s b ≡ done (length s) (holding l c s b)
   unfolding reading
   reading-short s b e = read-short l c (length s) s b (seen s short e)
 
   pub reading-bad : (s : List ℕ) (b : Lent) (e : Refusal) → first l c s ≡ bad e
-      → reading l c s b ≡ after (halt (codeOf e)) 9 (done 0 (ended l c (take 9 s) e b))
+      → reading l c s b ≡ after (halt (codeOf e)) 9 (done 0 (stoppedAt l c (take 9 s) e b))
   unfolding reading
   reading-bad s b e d = read-bad l c (length s) s b e (seen s (bad e) d)
 
@@ -48,7 +48,7 @@ module _ (l : Limits) (c : Setup) where
       read-whole l c (length s) s b n v ∙ ap (after (frameOf l c n s b) (9 + n)) (read-steps _ _ (drop (9 + n) s) _ k (omega arith))
 
   -- An empty piece where s is held: the empty rest of a piece after a frame may be offered or not.
-  pub offer-empty : (s : List ℕ) (b : Lent) → first l c s ≡ short → offering l (held l c s b) [] ≡ record { outcome = More; used = 0; world = held l c s b }
+  pub offer-empty : (s : List ℕ) (b : Lent) → first l c s ≡ short → offering l (holding l c s b) [] ≡ record { outcome = More; used = 0; world = holding l c s b }
   unfolding step
   offer-empty s b d =
       let v : View l c s short = seen s short d in
@@ -62,7 +62,7 @@ module _ (l : Limits) (c : Setup) where
       → ((m : ℕ) (b′ : Lent) → 9 + m ≤ length s → read l c n (drop (9 + m) s) b′ .world .receiver .progress .stop ≢ 0
       → read l c n (drop (9 + m) s ++ y) b′ ≡ read l c n (drop (9 + m) s) b′)
       → read l c (suc n) (s ++ y) b ≡ read l c (suc n) s b
-  unfolding after done held
+  unfolding after done holding
   stopped-step n s y b x (v-head h) k ih = absurd ((rw (read-short l c n s b (v-head h)) at k) refl)
   stopped-step n s y b x (v-load h d m) k ih = absurd ((rw (read-short l c n s b (v-load h d m)) at k) refl)
   stopped-step n s y b x (v-bad {e} h d) k ih =

@@ -28,7 +28,7 @@ use Rattle.frame.specs.declared.receiver.Progress.{Progress}
 use Rattle.frame.specs.declared.receiver.Receiver.{Receiver}
 use Rattle.frame.specs.Frames.{lengthOf, headerOf, decodeHeader}
 use Rattle.frame.specs.Worlds.{World, editor, progressOf, receiverOf, running, pad}
-use Rattle.frame.specs.Reading.{Verdict, refuse, gather, judge, decoded}
+use Rattle.frame.specs.Reading.{Verdict, refuse, gather, judge, decodedKind}
 use Rattle.frame.specs.declared.receiver.Opening.the-variants.{Accepted}
 use Rattle.frame.specs.Offering.{Opens, opens, stopOf, setupOf, headerHeld, overfull, impossible, handed, loads, settles, takes, offering, worldOf, offerAt}
 use Rattle.frame.proofs.Firsts.{gather-fits}
@@ -150,8 +150,8 @@ pub handed-out : (r : Receiver) (p′ : Progress) (h : FrameHeader) (u entry : �
     → _≡_ {A = Left} (record { answer = a; text = text′; rows = rows′; nodes = nodes′ }) (decodeMessage 67108864 64 entry (take (h .length) hold) text rows nodes)
     → hold′ ≡ clearFrom hold 0 → p′ ≡ progressOf (r .progress .«hold_len») (replicate 9 0) 0 0 (stopOf r)
     → offerAt (r .table) (record { progress = p′; used = u; outcome = Handed h a }) hold′ text′ rows′ nodes′
-    ≡ handed (worldOf r hold text rows nodes) h u (decoded editor (setupOf r) (h .kind) (take (h .length) hold) (record { text = text; rows = rows; nodes = nodes }))
-unfolding handed decoded
+    ≡ handed (worldOf r hold text rows nodes) h u (decodedKind editor (setupOf r) (h .kind) (take (h .length) hold) (record { text = text; rows = rows; nodes = nodes }))
+unfolding handed decodedKind
 handed-out r p′ h u entry a hold hold′ text rows nodes text′ rows′ nodes′ ee ed eh er =
     rw (← ee, ← ed, eh, cleared hold, er)
 
@@ -188,7 +188,7 @@ module _ (r : Receiver) (bytes : List ℕ) (u n : ℕ) (piece hold hold′ text 
       rw hold-is (take-at payload (drop (length payload) hold) n k)
 
   pub loaded-whole : (h : FrameHeader) → h ≡ headerOf bytes → h .length ≡ n → n - r .progress .«payload_len» ≤ length piece - u
-      → handed (worldOf r hold′ text rows nodes) h (u + (n - r .progress .«payload_len»)) (decoded editor (setupOf r) (h .kind) (take n hold′) (record { text = text; rows = rows; nodes = nodes }))
+      → handed (worldOf r hold′ text rows nodes) h (u + (n - r .progress .«payload_len»)) (decodedKind editor (setupOf r) (h .kind) (take n hold′) (record { text = text; rows = rows; nodes = nodes }))
       ≡ loads editor (worldOf r hold text rows nodes) bytes u (drop u piece) n
   unfolding loads handed
   loaded-whole h e f l =

@@ -8,7 +8,7 @@ use lib.ListN.{length, take, drop, length-take, length-drop}
 use lib.Seq.{take-at, take-all}
 use Rattle.varint.specs.declared.error.Refusal.{Refusal}
 use Rattle.frame.specs.Worlds.{Limits, Setup, Lent, editor, pad}
-use Rattle.frame.specs.Reading.{First, done, after, first, held, ended, read, reading}
+use Rattle.frame.specs.Reading.{First, done, after, first, holding, stoppedAt, read, reading}
 use Rattle.frame.specs.Driving.{joined}
 use Rattle.frame.specs.Runs.{ZeroAfter, EveryRest}
 use Rattle.frame.proofs.Firsts.{View, v-head, v-load, v-bad, v-whole, view}
@@ -21,12 +21,12 @@ module _ (l : Limits) (c : Setup) where
   unfolding pad
   payload-rest n s = rw (take-at (drop 9 s) _ (length s - 9) (length-drop 9 s))
 
-  held-rest : (s : List ℕ) (b : Lent) → ZeroAfter (held l c s b)
-  unfolding held
+  held-rest : (s : List ℕ) (b : Lent) → ZeroAfter (holding l c s b)
+  unfolding holding
   held-rest s b = record { header = rw (front l c s); hold = payload-rest (c .room) s }
 
-  ended-rest : (s : List ℕ) (e : Refusal) (b : Lent) → 9 ≤ length s → ZeroAfter (ended l c (take 9 s) e b)
-  unfolding ended pad
+  ended-rest : (s : List ℕ) (e : Refusal) (b : Lent) → 9 ≤ length s → ZeroAfter (stoppedAt l c (take 9 s) e b)
+  unfolding stoppedAt pad
   ended-rest s e b h =
       let k : length (take 9 s) ≡ 9 = rw length-take (omega arith) in
       record { header = rw (take-all 9 (take 9 s) (omega arith), k, append-nil); hold = rw sub-zero }

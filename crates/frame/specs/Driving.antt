@@ -53,9 +53,9 @@ module _ (l : Limits) where
       ]
 
 -- a step for each piece and each byte is enough
-unfoldable pub size : List (List ℕ) → ℕ
-size [] = 0
-size (p ∷ ps) = suc (length p + size ps)
+unfoldable pub stepsIn : List (List ℕ) → ℕ
+stepsIn [] = 0
+stepsIn (p ∷ ps) = suc (length p + stepsIn ps)
 
 unfoldable pub driving : Limits → World → List (List ℕ) → Driven
-driving l w ps = drive l (suc (size ps)) w ps
+driving l w ps = drive l (suc (stepsIn ps)) w ps

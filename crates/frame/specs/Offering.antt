@@ -23,7 +23,7 @@ use Rattle.frame.specs.declared.receiver.Outcome.the-variants.{More, Han
 use Rattle.frame.specs.declared.FrameHeader.{FrameHeader}
 use Rattle.frame.specs.Frames.{kindOf, lengthOf, headerOf}
 use Rattle.frame.specs.Worlds.{Limits, Setup, World, editor, receiverOf, running, pad}
-use Rattle.frame.specs.Reading.{Verdict, refuse, gather, judge, decoded, lentBy}
+use Rattle.frame.specs.Reading.{Verdict, refuse, gather, judge, decodedKind, lentBy}
 
 -- ---- opening
 
@@ -103,7 +103,7 @@ module _ (l : Limits) where
         used = u + length q;
         world = record { receiver = advanced (w .receiver) hd 9 (length payload); hold = payload ++ drop (length payload) (w .hold); lent = w .lent };
       })
-      (handed w (headerOf hd) (u + (n - have)) (decoded l (setupOf (w .receiver)) (kindOf hd) payload (w .lent)))
+      (handed w (headerOf hd) (u + (n - have)) (decodedKind l (setupOf (w .receiver)) (kindOf hd) payload (w .lent)))
 
   unfoldable pub settles : Verdict → (w : World) → (hd : List ℕ) → (u : ℕ) → (q : List ℕ) → Offer
   settles (gather n) w hd u q = loads w hd u q n

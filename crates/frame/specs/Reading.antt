@@ -70,20 +70,20 @@ module _ (l : Limits) (c : Setup) where
   -- ---- what becomes of it
 
   -- "under nine bytes left, they are held"; "Short payload: header and payload held, hold zero after."
-  unfoldable pub held : List ℕ → Lent → World
-  held s b = record { receiver = receiverOf c (pad 9 (take 9 s)) (min 9 (length s)) (length s - 9) running; hold = pad (c .room) (drop 9 s); lent = b }
+  unfoldable pub holding : List ℕ → Lent → World
+  holding s b = record { receiver = receiverOf c (pad 9 (take 9 s)) (min 9 (length s)) (length s - 9) running; hold = pad (c .room) (drop 9 s); lent = b }
 
   -- a stop, "nine header bytes held and hold zero", "the count of payload bytes held (0 at a stop), and the stop with its details"
-  unfoldable pub ended : List ℕ → Refusal → Lent → World
-  ended hd e b = record { receiver = receiverOf c hd 9 0 (codeOf e); hold = replicate (c .room) 0; lent = b }
+  unfoldable pub stoppedAt : List ℕ → Refusal → Lent → World
+  stoppedAt hd e b = record { receiver = receiverOf c hd 9 0 (codeOf e); hold = replicate (c .room) 0; lent = b }
 
   -- the message of a kind: "An entry 1 to 12 names a message; any other is opaque"
-  unfoldable pub decoded : (kind : ℕ) → List ℕ → Lent → Left
-  decoded kind payload b = decodeMessage (l .payload) (l .depth) (getD (c .table) kind 0) payload (b .text) (b .rows) (b .nodes)
+  unfoldable pub decodedKind : (kind : ℕ) → List ℕ → Lent → Left
+  decodedKind kind payload b = decodeMessage (l .payload) (l .depth) (getD (c .table) kind 0) payload (b .text) (b .rows) (b .nodes)
 
   -- the frame of n payload bytes that s begins with
   unfoldable pub answered : ℕ → List ℕ → Lent → Left
-  answered n s b = decoded (kindOf (take 9 s)) (take n (drop 9 s)) b
+  answered n s b = decodedKind (kindOf (take 9 s)) (take n (drop 9 s)) b
 
   abbrev pub frameOf : ℕ → List ℕ → Lent → Event
   frameOf n s b = frame (headerOf (take 9 s)) (answered n s b .answer) (lentBy (answered n s b))
@@ -92,11 +92,11 @@ module _ (l : Limits) (c : Setup) where
 
   -- Each step takes nine bytes or more, so a number of steps over the length of the run is enough: see `reading`.
   unfoldable pub read : (steps : ℕ) → List ℕ → Lent → Run
-  read zero s b = done 0 (held s b)
+  read zero s b = done 0 (holding s b)
   read (suc steps) s b =
       elim (first s) [
-        | short ↦ done (length s) (held s b)
-        | bad e ↦ after (halt (codeOf e)) 9 (done 0 (ended (take 9 s) e b))
+        | short ↦ done (length s) (holding s b)
+        | bad e ↦ after (halt (codeOf e)) 9 (done 0 (stoppedAt (take 9 s) e b))
         | whole n ↦ after (frameOf n s b) (9 + n) (read steps (drop (9 + n) s) (lentBy (answered n s b)))
       ]
 

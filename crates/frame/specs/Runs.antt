@@ -24,9 +24,9 @@ use Rattle.protocol.specs.declared.message.Message.the-variants as Msg
 use Rattle.frame.specs.declared.receiver.Receiver.{Receiver}
 use Rattle.frame.specs.Frames.{kindOf, streamOf, lengthOf}
 use Rattle.frame.specs.Worlds.{Setup, Lent, World, editor, receiverOf, running, pad, fresh}
-use Rattle.frame.specs.Reading.{frame, halt, Run, done, after, judge, firstOf, first, held, ended, decoded, answered, read, reading}
+use Rattle.frame.specs.Reading.{frame, halt, Run, done, after, judge, firstOf, first, holding, stoppedAt, decodedKind, answered, read, reading}
 use Rattle.frame.specs.Offering.{Opens, opens, Offer, declined, stopOf, headerHeld, payloadHeld, impossible, handed, loads, settles, takes, offering}
-use Rattle.frame.specs.Driving.{joined, plus, Driven, later, drive, size, driving}
+use Rattle.frame.specs.Driving.{joined, plus, Driven, later, drive, stepsIn, driving}
 
 -- the world after an opening
 abbrev pub opened : Opens → Lent → World
@@ -90,12 +90,12 @@ example-read : reading editor (setup 5) (joined pieces) (lent (1 ∷ 2 ∷ 3 ∷
       used = 31;
       world = record { receiver = receiverOf (setup 5) (1 ∷ 2 ∷ 0 ∷ 0 ∷ 0 ∷ 3 ∷ 0 ∷ 0 ∷ 0 ∷ []) 9 1 running; hold = 4 ∷ 0 ∷ 0 ∷ 0 ∷ 0 ∷ []; lent = cleared (0 ∷ 0 ∷ 0 ∷ 0 ∷ []) };
     }
-unfolding pieces setup lent cleared opaque joined reading read first firstOf judge held answered decoded decodeMessage settled fitted readMessage readEntry lay filled done after pad kindOf streamOf lengthOf le part
+unfolding pieces setup lent cleared opaque joined reading read first firstOf judge holding answered decodedKind decodeMessage settled fitted readMessage readEntry lay filled done after pad kindOf streamOf lengthOf le part
 example-read = refl
 
 example-driven : driving editor (fresh (setup 5) (lent (1 ∷ 2 ∷ 3 ∷ 4 ∷ []))) pieces
     ≡ record { run = reading editor (setup 5) (joined pieces) (lent (1 ∷ 2 ∷ 3 ∷ 4 ∷ [])); again = [] }
-unfolding pieces setup lent cleared joined reading read first firstOf judge held answered decoded decodeMessage settled fitted readMessage readEntry lay filled done after pad kindOf streamOf lengthOf le part driving drive later plus size fresh offering impossible takes settles loads handed
+unfolding pieces setup lent cleared joined reading read first firstOf judge holding answered decodedKind decodeMessage settled fitted readMessage readEntry lay filled done after pad kindOf streamOf lengthOf le part driving drive later plus stepsIn fresh offering impossible takes settles loads handed
 example-driven = refl
 
 -- ---- an opening with a kind table of 256 entries, over a hold that was dirty
@@ -139,15 +139,15 @@ example-session : driving editor session cuts ≡ record {
   };
   again = declined (codeOf (TooSmall Hold 6)) stopped ∷ declined (codeOf (TooSmall Hold 6)) stopped ∷ [];
 }
-unfolding session kinds cuts shown stopped opens decoded decodeMessage settled fitted readMessage readEntry readControl lay layControl getU64 readFrom getName getText skimText utf8 scan lead filled done after pad kindOf streamOf lengthOf le part driving drive later plus size offering impossible takes settles loads handed judge
+unfolding session kinds cuts shown stopped opens decodedKind decodeMessage settled fitted readMessage readEntry readControl lay layControl getU64 readFrom getName getText skimText utf8 scan lead filled done after pad kindOf streamOf lengthOf le part driving drive later plus stepsIn offering impossible takes settles loads handed judge
 example-session = refl
 
 -- the two pieces behind the stop's ninth header byte, which is byte 35
 example-later : laterPieces (driving editor session cuts .run) cuts ≡ (1 ∷ 2 ∷ []) ∷ [] ∷ []
-unfolding laterPieces behind session kinds cuts opens decoded decodeMessage settled fitted readMessage readEntry readControl lay layControl getU64 readFrom getName getText skimText utf8 scan lead filled done after pad kindOf streamOf lengthOf le part driving drive later plus size offering impossible takes settles loads handed judge
+unfolding laterPieces behind session kinds cuts opens decodedKind decodeMessage settled fitted readMessage readEntry readControl lay layControl getU64 readFrom getName getText skimText utf8 scan lead filled done after pad kindOf streamOf lengthOf le part driving drive later plus stepsIn offering impossible takes settles loads handed judge
 example-later = refl
 
 -- the reading of the same bytes, joined
 example-session-read : reading editor (record { table = kinds; room = 5 }) (joined cuts) (session .lent) ≡ driving editor session cuts .run
-unfolding session kinds cuts joined opens reading read first firstOf judge held ended answered decoded decodeMessage settled fitted readMessage readEntry readControl lay layControl getU64 readFrom getName getText skimText utf8 scan lead filled done after pad kindOf streamOf lengthOf le part driving drive later plus size offering impossible takes settles loads handed
+unfolding session kinds cuts joined opens reading read first firstOf judge holding stoppedAt answered decodedKind decodeMessage settled fitted readMessage readEntry readControl lay layControl getU64 readFrom getName getText skimText utf8 scan lead filled done after pad kindOf streamOf lengthOf le part driving drive later plus stepsIn offering impossible takes settles loads handed
 example-session-read = refl

@@ -4,7 +4,7 @@ ghost use mathlib.Core.List.{_++_};
 ghost use Prim.Native.Nat.{ℕ, _-_, _≤_};
 ghost use lib.ListN.{length, take, drop, getD, replicate};
 ghost use Rattle.frame.specs.Worlds.{editor, progressOf, receiverOf, running, pad};
-ghost use Rattle.frame.specs.Reading.{gather, decoded, judge as judging};
+ghost use Rattle.frame.specs.Reading.{gather, decodedKind, judge as judging};
 ghost use Rattle.frame.specs.Offering.{opens, impossible as impossibleFor, setupOf, stopOf, handed, loads, settles, offering, worldOf, offerOf, receiverAt, offerAt};
 ghost use Rattle.frame.specs.Frames.{headerOf};
 ghost use Rattle.frame.specs.inner.Judging.{Judges};
@@ -234,7 +234,7 @@ fn hand_out(
     nodes: &mut [u64],
 ) -> Stepped
     requires { ⌜ header .length ≤ length (now hold) ⌝ }
-    ensures { λ r. ⌜ offerAt (now (table .entry)) r (now (hold .exit)) (now (text .exit)) (now (rows .exit)) (now (nodes .exit)) ≡ handed (worldOf (receiverAt (now (table .entry)) progress) (now (hold .entry)) (now (text .entry)) (now (rows .entry)) (now (nodes .entry))) header used (decoded editor (setupOf (receiverAt (now (table .entry)) progress)) (header .kind) (take (header .length) (now (hold .entry))) (record { text = now (text .entry); rows = now (rows .entry); nodes = now (nodes .entry) })) ⌝ }
+    ensures { λ r. ⌜ offerAt (now (table .entry)) r (now (hold .exit)) (now (text .exit)) (now (rows .exit)) (now (nodes .exit)) ≡ handed (worldOf (receiverAt (now (table .entry)) progress) (now (hold .entry)) (now (text .entry)) (now (rows .entry)) (now (nodes .entry))) header used (decodedKind editor (setupOf (receiverAt (now (table .entry)) progress)) (header .kind) (take (header .length) (now (hold .entry))) (record { text = now (text .entry); rows = now (rows .entry); nodes = now (nodes .entry) })) ⌝ }
 {
     let entry = entry_of(table, header.kind);
     let answer = decode(entry, &hold[..header.length as usize], text, rows, nodes);

@@ -22,7 +22,7 @@ use Rattle.protocol.specs.declared.message.Answer.the-variants as Ans
 use Rattle.protocol.specs.declared.message.Message.{Message}
 use Rattle.gateway.specs.Numbers.{numberOf, fieldsOf, messageOf}
 use Rattle.gateway.specs.Answers.{numbersOf, noFields, given, accepted, ofMessage, ofDesc, ofWritten, ofNumber}
-use Rattle.gateway.specs.Entries.{named, decodeCall, descLeft, faultOf, encodeNumbers, sentLeft, getCall, putCall}
+use Rattle.gateway.specs.Entries.{namedEntry, decodeCall, descLeft, faultOf, encodeNumbers, sentLeft, getCall, putCall}
 use Rattle.gateway.specs.declared.answers.Parts.{Parts}
 use Rattle.gateway.specs.declared.numbers.MaybeMessage.{MaybeMessage}
 use Rattle.gateway.specs.declared.numbers.MaybeMessage.the-variants.{Known, Unknown}
@@ -41,14 +41,14 @@ pub refused-told : (asked : ℕ) {a : Answer} {e : Refusal} {code : Code} {x : �
     → a ≡ Ans.Refused e → code ≡ codeOf e → Tells (ofMessage asked a) x y
 refused-told asked h i e = rw (i, ← e) h
 
-pub message-told : (entry : ℕ) (s tx rs nd : List ℕ) {n x : ℕ} {a : Answer} {y tx′ rs′ nd′ : List ℕ} → Tells (ofMessage n a) x y → n ≡ named entry
+pub message-told : (entry : ℕ) (s tx rs nd : List ℕ) {n x : ℕ} {a : Answer} {y tx′ rs′ nd′ : List ℕ} → Tells (ofMessage n a) x y → n ≡ namedEntry entry
     → record { answer = a; text = tx′; rows = rs′; nodes = nd′ } ≡ decodeMessage 67108864 64 n s tx rs nd
     → record { result = x; answer = y; text = tx′; rows = rs′; nodes = nd′ } ≡ decodeCall entry s tx rs nd
 unfolding decodeCall
 message-told entry s tx rs nd h e f = rw (← e, ← f, h .0, h .1)
 
 module _ {p : Parts} {x : ℕ} {y : List ℕ} (h : Tells p x y) where
-  pub desc-told : {a : DescAnswer} {tx rs nd : List ℕ} {l : DescDecoding.Left}
+  pub desc-told : {a : DescAnswer} {tx rs nd : List ℕ} {l : DescDecoding.DecodedDesc}
       → record { answer = a; text = tx; rows = rs; nodes = nd } ≡ l → p ≡ ofDesc a
       → record { result = x; answer = y; text = tx; rows = rs; nodes = nd } ≡ descLeft l
   desc-told f g = rw (← f, h .0, h .1, g)

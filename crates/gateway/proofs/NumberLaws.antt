@@ -6,12 +6,12 @@ use Rattle.protocol.specs.declared.message.Digest.the-variants.{Absent, Present
 use Rattle.protocol.specs.declared.message.Message.{Message}
 use Rattle.protocol.specs.declared.message.Message.the-variants as Msg
 use Rattle.protocol_laws.proofs.CodeRounds.{mode-known, error-known, op-known}
-use Rattle.gateway.specs.Numbers.{numberOf, fieldsOf, messageIn, isMessage, messageOf, fits}
+use Rattle.gateway.specs.Numbers.{numberOf, fieldsOf, messageFrom, isMessage, messageOf, fits}
 use Rattle.gateway.specs.declared.numbers.MaybeMessage.the-variants.{Known}
 
 -- every message is the one that its numbers mean, an opaque one too
-pub message-back : (m : Message) → messageIn (numberOf m) (fieldsOf m) ≡ m
-unfolding messageIn
+pub message-back : (m : Message) → messageFrom (numberOf m) (fieldsOf m) ≡ m
+unfolding messageFrom
 message-back (Msg.Startup version database mode fingerprint claims) = simp (mode-known mode)
 message-back (Msg.Ready version fingerprint predicates) = refl
 message-back (Msg.Error code text) = simp (error-known code)

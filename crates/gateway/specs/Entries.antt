@@ -27,7 +27,7 @@ use Rattle.protocol.specs.Ids.{idWidth}
 use Rattle.protocol.specs.RowsHeld.{heldTimes}
 use Rattle.protocol.specs.Said.{readEntry, readMessage, printSaid, lay}
 use Rattle.protocol.specs.Startup.{claimWidth}
-use Rattle.gateway.specs.Numbers.{at, messageIn, isMessage, messageOf}
+use Rattle.gateway.specs.Numbers.{at, messageFrom, isMessage, messageOf}
 use Rattle.gateway.specs.Answers.{numbersOf, ofMessage, ofDesc, ofWritten, ofNumber}
 use Rattle.gateway.specs.declared.answers.Parts.{Parts}
 use Rattle.gateway.specs.declared.numbers.MaybeMessage.{MaybeMessage}
@@ -65,18 +65,18 @@ encoded p d = record { result = p .refusal .number; answer = numbersOf p; out = 
 -- fjord_decode
 
 -- "An entry 1 to 12 names a message; any other is opaque": the message's number, also of one that is refused
-abbrev pub named : ℕ → ℕ
-named entry = pick (leb entry 12) entry 0
+abbrev pub namedEntry : ℕ → ℕ
+namedEntry entry = pick (leb entry 12) entry 0
 
 abbrev pub messageLeft : ℕ → Left → Decoded
 messageLeft n l = decoded (ofMessage n (l .answer)) (l .text) (l .rows) (l .nodes)
 
 unfoldable pub decodeCall : ℕ → List ℕ → List ℕ → List ℕ → List ℕ → Decoded
-decodeCall entry s tx rs nd = messageLeft (named entry) (decodeMessage 67108864 64 (named entry) s tx rs nd)
+decodeCall entry s tx rs nd = messageLeft (namedEntry entry) (decodeMessage 67108864 64 (namedEntry entry) s tx rs nd)
 
 -- fjord_decode_desc: "Read alone, a descriptor is a message without rows"
 
-abbrev pub descLeft : DescDecoding.Left → Decoded
+abbrev pub descLeft : DescDecoding.DecodedDesc → Decoded
 descLeft l = decoded (ofDesc (l .answer)) (l .text) (l .rows) (l .nodes)
 
 unfoldable pub decodeDescCall : List ℕ → List ℕ → List ℕ → List ℕ → Decoded
@@ -153,7 +153,7 @@ example-mode = refl
 -- a fetch without a digest of one id, 2 × 2^40 + 5
 example-fetch : encodeCall 11 (0 ∷ 9 ∷ 1 ∷ 9 ∷ 9 ∷ 9 ∷ []) [] (2199023255557 ∷ []) [] (9 ∷ 9 ∷ 9 ∷ 9 ∷ 9 ∷ [])
     ≡ record { result = 0; answer = 0 ∷ 0 ∷ 0 ∷ 4 ∷ 0 ∷ 0 ∷ 0 ∷ 0 ∷ 0 ∷ 0 ∷ 0 ∷ 0 ∷ 0 ∷ 0 ∷ 0 ∷ 0 ∷ []; out = 0 ∷ 1 ∷ 2 ∷ 5 ∷ 0 ∷ [] }
-unfolding encodeCall encodeNumbers messageOf messageIn isMessage encodeMessage sent heldSaid heldFetch heldTimes printSaid printAll send wrote filled putU64 putBy
+unfolding encodeCall encodeNumbers messageOf messageFrom isMessage encodeMessage sent heldSaid heldFetch heldTimes printSaid printAll send wrote filled putU64 putBy
 example-fetch = refl
 
 example-get : getCall (0x80 ∷ 0x01 ∷ 0xFF ∷ []) ≡ record { result = 0; answer = 0 ∷ 0 ∷ 0 ∷ 2 ∷ 0 ∷ 0 ∷ 0 ∷ 0 ∷ 128 ∷ 0 ∷ 0 ∷ 0 ∷ 0 ∷ 0 ∷ 0 ∷ 0 ∷ [] }

@@ -22,7 +22,7 @@ use Rattle.frame.specs.declared.receiver.Receiver.{Receiver}
 use Rattle.frame.specs.declared.slot.SlotAnswer.{SlotAnswer}
 use Rattle.frame.specs.declared.slot.SlotAnswer.the-variants as S
 use Rattle.gateway.specs.Answers.{numbersOf, noFields, given, accepted, refused, ofMessage}
-use Rattle.gateway.specs.Entries.{Told, Encoded, told, encoded, sentLeft, named}
+use Rattle.gateway.specs.Entries.{Told, Encoded, told, encoded, sentLeft, namedEntry}
 use Rattle.gateway.specs.declared.answers.Parts.{Parts}
 
 -- a frame's header beside what else is told
@@ -113,7 +113,7 @@ resultOf (Refused e) = 3
 -- a frame "by kind, stream, length, and message or refusal with details"; the message's number is the kind table's, also where the message is refused
 abbrev pub ofOutcome : (table : List ℕ) → (used : ℕ) → Outcome → Parts
 ofOutcome table u More = accepted u 0 noFields
-ofOutcome table u (Handed h a) = headed h u (ofMessage (named (getD table (h .kind) 0)) a)
+ofOutcome table u (Handed h a) = headed h u (ofMessage (namedEntry (getD table (h .kind) 0)) a)
 ofOutcome table u (Stopped e) = given e u 0 noFields
 ofOutcome table u (Refused e) = given e u 0 noFields
 

@@ -98,16 +98,16 @@ abbrev pub opIn : MaybeControlOp → ControlOp
 opIn (MC.Known op) = op
 opIn MC.Unknown = Create
 
-abbrev pub replyIn : ControlOp → List ℕ → ControlReply
-replyIn Create f = Created (spanAt f 1)
-replyIn Finish f = Finished (at f 1) (at f 2) (at f 3) (yes (at f 4))
-replyIn Remove f = Removed
+abbrev pub replyFrom : ControlOp → List ℕ → ControlReply
+replyFrom Create f = Created (spanAt f 1)
+replyFrom Finish f = Finished (at f 1) (at f 2) (at f 3) (yes (at f 4))
+replyFrom Remove f = Removed
 
-abbrev pub digestIn : ℕ → ℕ → Digest
-digestIn flag digest = pick (eqb flag 0) Absent (Present digest)
+abbrev pub digestFrom : ℕ → ℕ → Digest
+digestFrom flag digest = pick (eqb flag 0) Absent (Present digest)
 
-unfoldable pub messageIn : ℕ → List ℕ → Message
-messageIn n f =
+unfoldable pub messageFrom : ℕ → List ℕ → Message
+messageFrom n f =
     pick (eqb n 1) (Msg.Startup (at f 0) (spanAt f 1) (modeIn (modeOf (at f 3))) (at f 4) (at f 5))
     (pick (eqb n 2) (Msg.Ready (at f 0) (at f 1) (at f 2))
     (pick (eqb n 3) (Msg.Error (errorIn (errorOf (at f 0))) (spanAt f 1))
@@ -115,10 +115,10 @@ messageIn n f =
     (pick (eqb n 5) (Msg.Ids (at f 0))
     (pick (eqb n 6) (Msg.Types (at f 0))
     (pick (eqb n 7) (Msg.Control (opIn (opOf (at f 0))) (spanAt f 1) (yes (at f 3)) (spanAt f 4))
-    (pick (eqb n 8) (Msg.Reply (replyIn (opIn (opOf (at f 0))) f))
+    (pick (eqb n 8) (Msg.Reply (replyFrom (opIn (opOf (at f 0))) f))
     (pick (eqb n 9) (Msg.Profile (at f 0))
     (pick (eqb n 10) (Msg.Page (at f 0) (spanAt f 1) (spanAt f 3))
-    (pick (eqb n 11) (Msg.Fetch (digestIn (at f 0) (at f 1)) (at f 2))
+    (pick (eqb n 11) (Msg.Fetch (digestFrom (at f 0) (at f 1)) (at f 2))
     (pick (eqb n 12) (Msg.ListingDigest (at f 0) (at f 1))
     (Msg.Opaque (spanAt f 0)))))))))))))
 
@@ -163,7 +163,7 @@ isMessage n f =
     false)))))))))))
 
 unfoldable pub messageOf : ℕ → List ℕ → MaybeMessage
-messageOf n f = pick (isMessage n f) (Known (messageIn n f)) Unknown
+messageOf n f = pick (isMessage n f) (Known (messageFrom n f)) Unknown
 
 -- what the types of a message's fields say of its numbers, where 64 bits could say more; an opaque payload is none of the twelve
 abbrev pub fits : Message → Bool
@@ -186,30 +186,30 @@ example-startup = refl
 
 -- of the fields of a fetch without a digest only the first and the third are read
 example-fetch : messageOf 11 (0 ∷ 8 ∷ 2 ∷ 9 ∷ 9 ∷ 9 ∷ []) ≡ Known (Msg.Fetch Absent 2)
-unfolding messageOf messageIn isMessage
+unfolding messageOf messageFrom isMessage
 example-fetch = refl
 
 example-busy : messageOf 3 (11 ∷ 5 ∷ 6 ∷ 0 ∷ 0 ∷ 0 ∷ []) ≡ Known (Msg.Error Busy (record { start = 5; len = 6 }))
-unfolding messageOf messageIn isMessage
+unfolding messageOf messageFrom isMessage
 example-busy = refl
 
 example-code : messageOf 3 (12 ∷ 5 ∷ 6 ∷ 0 ∷ 0 ∷ 0 ∷ []) ≡ Unknown
-unfolding messageOf messageIn isMessage
+unfolding messageOf messageFrom isMessage
 example-code = refl
 
 example-version : messageOf 2 (4294967296 ∷ 0 ∷ 0 ∷ 0 ∷ 0 ∷ 0 ∷ []) ≡ Unknown
-unfolding messageOf messageIn isMessage
+unfolding messageOf messageFrom isMessage
 example-version = refl
 
 -- removed has no flag, finished has
 example-removed : messageOf 8 (3 ∷ 0 ∷ 0 ∷ 0 ∷ 2 ∷ 0 ∷ []) ≡ Known (Msg.Reply Removed)
-unfolding messageOf messageIn isMessage
+unfolding messageOf messageFrom isMessage
 example-removed = refl
 
 example-finished : messageOf 8 (2 ∷ 0 ∷ 0 ∷ 0 ∷ 2 ∷ 0 ∷ []) ≡ Unknown
-unfolding messageOf messageIn isMessage
+unfolding messageOf messageFrom isMessage
 example-finished = refl
 
 example-thirteen : messageOf 13 (0 ∷ 0 ∷ 0 ∷ 0 ∷ 0 ∷ 0 ∷ []) ≡ Unknown
-unfolding messageOf messageIn isMessage
+unfolding messageOf messageFrom isMessage
 example-thirteen = refl

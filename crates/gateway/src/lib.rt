@@ -12,7 +12,7 @@ ghost use lib.ListN.{length};
 ghost use Rattle.varint.specs.Choice.{pick};
 ghost use Rattle.varint.specs.declared.error.Fault.the-variants.{RowCount, Number};
 ghost use Rattle.protocol.specs.Rows.{widthOf};
-ghost use Rattle.gateway.specs.Entries.{named, faultOf, encodeNumbers, decodeCall, decodeDescCall, encodeCall, encodeDescCall, getCall, putCall};
+ghost use Rattle.gateway.specs.Entries.{namedEntry, faultOf, encodeNumbers, decodeCall, decodeDescCall, encodeCall, encodeDescCall, getCall, putCall};
 use answers::of_desc;
 use answers::of_number;
 use answers::of_written;
@@ -34,7 +34,7 @@ use varint::get_u64;
 
 // The message that an entry of the kind table names, or 0 for an opaque payload.
 pub(crate) fn named(entry: u64) -> u8
-    ensures { λ r. ⌜ r ≡ named entry ⌝ }
+    ensures { λ r. ⌜ r ≡ namedEntry entry ⌝ }
 {
     if 12 < entry {
         return 0;

@@ -14,7 +14,7 @@ use Rattle.frame.specs.declared.receiver.Receiver.{Receiver}
 use Rattle.frame.specs.Worlds.{World, editor}
 use Rattle.frame.specs.Reading.{done, after}
 use Rattle.frame.specs.Offering.{Offer, opens, offering}
-use Rattle.frame.specs.Driving.{plus, later, size, driving}
+use Rattle.frame.specs.Driving.{plus, later, stepsIn, driving}
 use Rattle.frame.specs.Runs.{opened}
 use Rattle.frame.proofs.OfferUses.{offer-within, handed-uses}
 use Rattle.frame.proofs.DrivingLaws.{driving-none, driving-more, driving-handed, driving-stopped, driving-refused}
@@ -32,9 +32,9 @@ printed-stopped w n (p ∷ ps) = refl
 abbrev Prints : World → List (List ℕ) → Type 0
 Prints w ps = printed w (Held (heldOf (w .receiver))) ps ≡ textOf (driving editor w ps .run)
 
-module _ (w : World) (p : List ℕ) (ps : List (List ℕ)) (ih : (v : World) (qs : List (List ℕ)) → size qs < size (p ∷ ps) → Prints v qs) where
+module _ (w : World) (p : List ℕ) (ps : List (List ℕ)) (ih : (v : World) (qs : List (List ℕ)) → stepsIn qs < stepsIn (p ∷ ps) → Prints v qs) where
   prints : (x : Outcome) → offering editor w p .outcome ≡ x → Prints w (p ∷ ps)
-  unfolding printed textOf linesOf lastOf plus after done later size
+  unfolding printed textOf linesOf lastOf plus after done later stepsIn
   prints More e =
       let i = ih (offering editor w p .world) ps (omega arith) in
       rw (driving-more editor w p [] e, driving-none, driving-more editor w p ps e) i
@@ -45,7 +45,7 @@ module _ (w : World) (p : List ℕ) (ps : List (List ℕ)) (ih : (v : World) (qs
   prints (O.Stopped c) e = rw (driving-stopped editor w p [] c e, driving-stopped editor w p ps c e) (printed-stopped _ _ ps)
   prints (Refused c) e = rw (driving-refused editor w p [] c e, driving-refused editor w p ps c e, driving-none) (printed-stopped _ _ ps)
 
-prints-by : (f : ℕ) (w : World) (ps : List (List ℕ)) → size ps < f → Prints w ps
+prints-by : (f : ℕ) (w : World) (ps : List (List ℕ)) → stepsIn ps < f → Prints w ps
 unfolding printed textOf linesOf lastOf done
 prints-by zero w ps h = absurd (omega arith)
 prints-by (suc f) w [] h = rw (driving-none)
@@ -53,7 +53,7 @@ prints-by (suc f) w (p ∷ ps) h = prints w p ps (λ v qs k. prints-by f v qs (o
 
 -- from any world
 pub prints-driving : (w : World) (ps : List (List ℕ)) → printed w (Held (heldOf (w .receiver))) ps ≡ textOf (driving editor w ps .run)
-prints-driving w ps = prints-by (suc (size ps)) w ps (omega arith)
+prints-driving w ps = prints-by (suc (stepsIn ps)) w ps (omega arith)
 
 -- a receiver that was just opened holds nothing
 none-held : (before : Receiver) (table hold : List ℕ) → length table ≡ 256 → heldOf (opens before table hold .receiver) ≡ 0

@@ -40,16 +40,16 @@ abbrev pub heldOf : Receiver → ℕ
 heldOf r = declared (r .progress .«header_len» + r .progress .«payload_len»)
 
 -- `held ` and `stopped `
-abbrev pub held : List ℕ
-held = 0x68 ∷ 0x65 ∷ 0x6C ∷ 0x64 ∷ 0x20 ∷ []
+abbrev pub heldWord : List ℕ
+heldWord = 0x68 ∷ 0x65 ∷ 0x6C ∷ 0x64 ∷ 0x20 ∷ []
 
-abbrev pub stopped : List ℕ
-stopped = 0x73 ∷ 0x74 ∷ 0x6F ∷ 0x70 ∷ 0x70 ∷ 0x65 ∷ 0x64 ∷ 0x20 ∷ []
+abbrev pub stoppedWord : List ℕ
+stoppedWord = 0x73 ∷ 0x74 ∷ 0x6F ∷ 0x70 ∷ 0x70 ∷ 0x65 ∷ 0x64 ∷ 0x20 ∷ []
 
--- "Last: `held` and the count of header and payload bytes held, or `stopped` and the number."
+-- "Last: `heldWord` and the count of header and payload bytes held, or `stoppedWord` and the number."
 unfoldable pub lastLine : Last → List ℕ
-lastLine (Held n) = held ++ column n 0x0A
-lastLine (Stopped n) = stopped ++ column n 0x0A
+lastLine (Held n) = heldWord ++ column n 0x0A
+lastLine (Stopped n) = stoppedWord ++ column n 0x0A
 
 -- the lines of document 01's example: `5 1 3 0` and `held 0`
 example-frame : lineOf 5 1 3 0 ≡ 0x35 ∷ 0x20 ∷ 0x31 ∷ 0x20 ∷ 0x33 ∷ 0x20 ∷ 0x30 ∷ 0x0A ∷ []

@@ -18,9 +18,9 @@ use Rattle.frame.specs.declared.receiver.Outcome.the-variants as O
 use Rattle.frame.specs.declared.receiver.Outcome.the-variants.{More, Handed}
 use Rattle.frame.specs.Frames.{kindOf, streamOf, lengthOf}
 use Rattle.frame.specs.Worlds.{World, Lent, editor, receiverOf, running, pad}
-use Rattle.frame.specs.Reading.{Event, frame, halt, denied, Run, done, after, judge, decoded, reading}
+use Rattle.frame.specs.Reading.{Event, frame, halt, denied, Run, done, after, judge, decodedKind, reading}
 use Rattle.frame.specs.Offering.{worldOf, opens, impossible, handed, loads, settles, takes, offering}
-use Rattle.frame.specs.Driving.{joined, plus, later, drive, size, driving}
+use Rattle.frame.specs.Driving.{joined, plus, later, drive, stepsIn, driving}
 use Rattle.frame.specs.Runs.{opened}
 use Rattle.listing.specs.declared.Last.{Last}
 use Rattle.listing.specs.declared.Last.the-variants.{Held, Stopped}
@@ -108,11 +108,11 @@ cuts = (0x05 ∷ 0x01 ∷ 0x00 ∷ 0x00 ∷ []) ∷ (0x00 ∷ 0x03 ∷ 0x00 ∷ 
 
 example-printed : printed session (Held 0) cuts
     ≡ 0x35 ∷ 0x20 ∷ 0x31 ∷ 0x20 ∷ 0x33 ∷ 0x20 ∷ 0x30 ∷ 0x0A ∷ 0x68 ∷ 0x65 ∷ 0x6C ∷ 0x64 ∷ 0x20 ∷ 0x30 ∷ 0x0A ∷ []
-unfolding kinds memory session cuts printed linesOf lastOf lineOf lastLine column decimal decimalBy opens decoded decodeMessage settled fitted readMessage readEntry readReady lay layReady getU64 readFrom filled done after pad kindOf streamOf lengthOf le part driving drive later plus size offering impossible takes settles loads handed judge
+unfolding kinds memory session cuts printed linesOf lastOf lineOf lastLine column decimal decimalBy opens decodedKind decodeMessage settled fitted readMessage readEntry readReady lay layReady getU64 readFrom filled done after pad kindOf streamOf lengthOf le part driving drive later plus stepsIn offering impossible takes settles loads handed judge
 example-printed = refl
 
 -- a header that asks for five bytes of a hold of four, and a byte after it: a run that stops has its lines before, and the refusal's number
 example-stop : printed session (Held 0) (cuts ++ ((0x05 ∷ 0x01 ∷ 0x00 ∷ 0x00 ∷ 0x00 ∷ 0x05 ∷ 0x00 ∷ 0x00 ∷ 0x00 ∷ 0x07 ∷ []) ∷ (0x01 ∷ []) ∷ []))
     ≡ 0x35 ∷ 0x20 ∷ 0x31 ∷ 0x20 ∷ 0x33 ∷ 0x20 ∷ 0x30 ∷ 0x0A ∷ 0x73 ∷ 0x74 ∷ 0x6F ∷ 0x70 ∷ 0x70 ∷ 0x65 ∷ 0x64 ∷ 0x20 ∷ 0x31 ∷ 0x36 ∷ 0x0A ∷ []
-unfolding kinds memory session cuts printed linesOf lastOf lineOf lastLine column decimal decimalBy opens decoded decodeMessage settled fitted readMessage readEntry readReady lay layReady getU64 readFrom filled done after pad kindOf streamOf lengthOf le part driving drive later plus size offering impossible takes settles loads handed judge
+unfolding kinds memory session cuts printed linesOf lastOf lineOf lastLine column decimal decimalBy opens decodedKind decodeMessage settled fitted readMessage readEntry readReady lay layReady getU64 readFrom filled done after pad kindOf streamOf lengthOf le part driving drive later plus stepsIn offering impossible takes settles loads handed judge
 example-stop = refl

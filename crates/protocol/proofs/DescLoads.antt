@@ -10,7 +10,7 @@ use lib.ListN.{length}
 use Rattle.varint.specs.Formats.{Got, got, bad, then}
 use Rattle.varint.specs.declared.error.Refusal.{Refusal}
 use Rattle.desc.specs.Decoding.{measured, storedAs, filledBy, fillDesc}
-use Rattle.desc.specs.Layout.{width, texts, placed, rows}
+use Rattle.desc.specs.Layout.{width, texts, placed, nodesOf}
 use Rattle.desc.specs.Reading.{desc}
 use Rattle.desc.specs.Trees.{Tree, size}
 use Rattle.desc.specs.declared.Walked.{Walked}
@@ -26,7 +26,7 @@ use Rattle.protocol.proofs.RowStores.{stored-none}
 -- what a descriptor leaves, whichever reading it is
 module _ (tr : Tree (List ℕ)) (q : ℕ) (tx : List ℕ) (t : ℕ) (nd : List ℕ) (n : ℕ) where
   left-stored : (check : Bool)
-      → descLeft check (got tr q) tx t nd n ≡ record { text = stored check tx t (texts tr); nodes = stored check nd (n * width) (rows (placed tr t) n (0, 0) 0) }
+      → descLeft check (got tr q) tx t nd n ≡ record { text = stored check tx t (texts tr); nodes = stored check nd (n * width) (nodesOf (placed tr t) n (0, 0) 0) }
   unfolding filledBy storedAs
   left-stored true = refl
   left-stored false = refl

@@ -6,9 +6,9 @@ use Prim.Native.Nat.{ℕ, _+_, _*_}
 use native.Mathlib.Nat.{add-assoc, add-zero}
 use native.Mathlib.Omega.{arith}
 use lib.ListN.{length, length-append}
-use Rattle.desc.specs.Layout.{width, placed, rows}
+use Rattle.desc.specs.Layout.{width, placed, nodesOf}
 use Rattle.desc.specs.Trees.{Tree, size}
-use Rattle.desc.proofs.LayoutLaws.{size-placed, length-rows}
+use Rattle.desc.proofs.LayoutLaws.{size-placed, length-nodes}
 use Rattle.protocol.specs.inner.Loading.{stored, Mem, put}
 use Rattle.protocol.specs.Pieces.{Piece, none, tree, _⊕_}
 use Rattle.protocol.proofs.RowStores.{stored-append, stored-none}
@@ -18,7 +18,7 @@ abbrev pub Seven : Piece → Type 0
 Seven p = (t n : ℕ) → length (p .nodes t n) ≡ p .size * width
 
 pub tree-seven : (tr : Tree (List ℕ)) → Seven (tree tr)
-tree-seven tr t n = length-rows (placed tr t) n (0, 0) 0 ∙ ap (λ (k : ℕ). k * width) (size-placed tr t)
+tree-seven tr t n = length-nodes (placed tr t) n (0, 0) 0 ∙ ap (λ (k : ℕ). k * width) (size-placed tr t)
 
 pub join-seven : (p q : Piece) → Seven p → Seven q → Seven (p ⊕ q)
 join-seven p q h k t n =

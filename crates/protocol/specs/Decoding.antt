@@ -15,7 +15,7 @@ use Rattle.varint.specs.declared.error.Buffer.the-variants.{Text, Rows, Nodes}
 use Rattle.varint.specs.declared.error.Mismatch.the-variants as M
 use Rattle.varint.specs.declared.error.Refusal.{Refusal}
 use Rattle.varint.specs.declared.error.Refusal.the-variants.{TooSmall, TypeMismatch}
-use Rattle.desc.specs.Layout.{texts, placed, rows}
+use Rattle.desc.specs.Layout.{texts, placed, nodesOf}
 use Rattle.desc.specs.Reading.{headAt, desc}
 use Rattle.desc.specs.Trees.{size}
 use Rattle.protocol.specs.Laying.{Laid}
@@ -94,5 +94,5 @@ example-text = refl
 -- 16(3): a type whose key and value take two nodes, and room for one
 example-nodes : decodeMessage 67108864 64 6 (1 ∷ 3 ∷ 1 ∷ 0x70 ∷ 0 ∷ 0 ∷ 1 ∷ 1 ∷ []) (9 ∷ []) (9 ∷ 9 ∷ 9 ∷ 9 ∷ 9 ∷ 9 ∷ []) (9 ∷ 9 ∷ 9 ∷ 9 ∷ 9 ∷ 9 ∷ 9 ∷ [])
     ≡ kept (TooSmall Nodes 14) (9 ∷ []) (9 ∷ 9 ∷ 9 ∷ 9 ∷ 9 ∷ 9 ∷ []) (9 ∷ 9 ∷ 9 ∷ 9 ∷ 9 ∷ 9 ∷ 9 ∷ [])
-unfolding decodeMessage settled fitted readMessage readEntry readTypes lay layTypes many readTimes desc headAt texts placed rows size getU64 readFrom getName getText skimText utf8 scan lead part
+unfolding decodeMessage settled fitted readMessage readEntry readTypes lay layTypes many readTimes desc headAt texts placed nodesOf size getU64 readFrom getName getText skimText utf8 scan lead part
 example-nodes = refl

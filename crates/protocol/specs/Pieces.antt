@@ -3,7 +3,7 @@ use mathlib.Core.Path.{_≡_, refl}
 use mathlib.Core.List.{List, [], _∷_, _++_}
 use Prim.Native.Nat.{ℕ, _+_}
 use lib.ListN.{length}
-use Rattle.desc.specs.Layout.{texts, placed, rows}
+use Rattle.desc.specs.Layout.{texts, placed, nodesOf}
 use Rattle.desc.specs.Trees.{Tree, size}
 
 -- Its texts; how many nodes it has; and its rows and nodes where its texts start at place t and its nodes at node n.
@@ -26,7 +26,7 @@ cells row = record { text = []; size = 0; rows = row; nodes = λ t n. [] }
 
 -- a descriptor: "a root's name is 0, 0"
 abbrev pub tree : Tree (List ℕ) → Piece
-tree tr = record { text = texts tr; size = size tr; rows = λ t n. []; nodes = λ t n. rows (placed tr t) n (0, 0) 0 }
+tree tr = record { text = texts tr; size = size tr; rows = λ t n. []; nodes = λ t n. nodesOf (placed tr t) n (0, 0) 0 }
 
 -- one after the other
 infixr 60 _⊕_

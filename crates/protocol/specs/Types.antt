@@ -16,7 +16,7 @@ use Rattle.varint.specs.Gathering.{Held, held, lacks, thenHeld, nameHeld, textH
 use Rattle.varint.specs.declared.error.Fault.the-variants.{Layout}
 use Rattle.varint.specs.declared.error.Refusal.the-variants.{UnknownPredicate, BadMessage}
 use Rattle.desc.specs.Encoding.{heldIn}
-use Rattle.desc.specs.Layout.{endAt, texts, placed, rows}
+use Rattle.desc.specs.Layout.{endAt, texts, placed, nodesOf}
 use Rattle.desc.specs.Table.{cell, table, rootName, discriminantFits, predicateFits, isBranch, leafFits, nodeFits, gather}
 use Rattle.desc.specs.Trees.{Tree, leaf, size}
 use Rattle.protocol.specs.Fields.{provided, narrow, name, wideFlag, bit, yes, descriptor, Optional, absent, present, optional}
@@ -78,15 +78,15 @@ unfoldable pub typeNumbers : List ℕ → ℕ → Bool
 typeNumbers rs r = narrow (getD rs r 0) && leb (getD rs (r + 3) 0) 1 && leb (getD rs (r + 4) 0) 1
 
 -- the node after the tree at node n; "19(3) nodes .. not laid out as above"
-abbrev pub after : Got (Tree (ℕ × ℕ)) → Held ℕ
-after (got tr next) = held next
-after (bad e) = lacks e
+abbrev pub nodeAfter : Got (Tree (ℕ × ℕ)) → Held ℕ
+nodeAfter (got tr next) = held next
+nodeAfter (bad e) = lacks e
 
 -- the node after the nodes of the type whose row starts at number r, the first of which must be node n
 unfoldable pub typeLaid : ℕ → List ℕ → List ℕ → ℕ → ℕ → Held ℕ
 typeLaid limit rs nd r n =
     pick (eqb (getD rs (r + 5) 0) n)
-    (thenHeld (after (table limit nd n 0)) (λ m. pick (yes (getD rs (r + 4) 0)) (after (table limit nd m 0)) (held m)))
+    (thenHeld (nodeAfter (table limit nd n 0)) (λ m. pick (yes (getD rs (r + 4) 0)) (nodeAfter (table limit nd m 0)) (held m)))
     (lacks (BadMessage Layout))
 
 -- so for `count` types, one behind the other without a gap
@@ -123,7 +123,7 @@ example-rows = refl
 
 -- the value's node stands behind the key's
 example-nodes : layTypes (sample ∷ []) .piece .nodes 0 0 ≡ 0 ∷ 0 ∷ 0 ∷ 0 ∷ 0 ∷ 0 ∷ 1 ∷ 1 ∷ 0 ∷ 0 ∷ 0 ∷ 0 ∷ 0 ∷ 2 ∷ []
-unfolding layTypes many texts placed rows size
+unfolding layTypes many texts placed nodesOf size
 example-nodes = refl
 
 -- the same taken out of the memory again

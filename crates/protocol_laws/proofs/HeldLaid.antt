@@ -13,7 +13,7 @@ use Rattle.varint.specs.RoundTrips.{Bytes, All}
 use Rattle.varint.specs.Utf8.{utf8}
 use Rattle.varint.specs.declared.error.Refusal.the-variants.{BlockTooLarge}
 use Rattle.varint.proofs.FormatGives.{Gives, any-gives, name-gives, pair-gives, named-gives, counted-gives}
-use Rattle.desc.specs.Layout.{rows}
+use Rattle.desc.specs.Layout.{nodesOf}
 use Rattle.protocol.specs.Complete.{layComplete}
 use Rattle.protocol.specs.Control.{Control, layControl, heldControl}
 use Rattle.protocol.specs.Encoding.{heldAs, heldSaid}

@@ -16,7 +16,7 @@ use Rattle.varint.specs.Stores.{part}
 use Rattle.varint.specs.Utf8.{utf8}
 use Rattle.varint.proofs.StoreLaws.{part-seam}
 use Rattle.desc.specs.Encoding.{heldIn}
-use Rattle.desc.specs.Layout.{Span, width, endAt, texts, placed, rows}
+use Rattle.desc.specs.Layout.{NameSpan, width, endAt, texts, placed, nodesOf}
 use Rattle.desc.specs.Table.{cell, table, gather}
 use Rattle.desc.specs.Trees.{Tree, leaf, branch, size}
 use Rattle.desc.specs.WellFormed.{Fine, root}
@@ -30,7 +30,7 @@ use Rattle.protocol.specs.Pieces.{Piece, words, cells, tree, _⊕_, many}
 use Rattle.protocol.specs.Profile.{stepWidth, layStep, heldStep}
 use Rattle.protocol.specs.RowsHeld.{enough, heldTimes, allGood}
 use Rattle.protocol.specs.Startup.{claimWidth, layClaim, heldClaim}
-use Rattle.protocol.specs.Types.{Predicate, typeWidth, hasValue, layValue, layPredicate, typeNumbers, after, typeLaid, typesLaid, heldPredicate}
+use Rattle.protocol.specs.Types.{Predicate, typeWidth, hasValue, layValue, layPredicate, typeNumbers, nodeAfter, typeLaid, typesLaid, heldPredicate}
 use Rattle.protocol.proofs.RowEnds.{predicate-rows, predicate-nodes}
 use Rattle.protocol_laws.specs.Fine.{IfPresent}
 use Rattle.protocol_laws.proofs.Standing.{At, at-first, at-room, at-cell, at-head, In, in-first, in-rest}
@@ -157,8 +157,8 @@ step-rowed =
 -- Descriptors
 
 -- a tree that is laid out from node n on ends where its root says
-pub root-end : (st : Tree Span) (n : ℕ) (name : Span) (d : ℕ) {nd : List ℕ} → At (rows st n name d) nd (n * width) → cell nd n endAt ≡ n + size st
-unfolding rows size
+pub root-end : (st : Tree NameSpan) (n : ℕ) (name : NameSpan) (d : ℕ) {nd : List ℕ} → At (nodesOf st n name d) nd (n * width) → cell nd n endAt ≡ n + size st
+unfolding nodesOf size
 root-end (leaf tag p) n name d h = at-cell h 6
 root-end (branch tag ks) n name d h = at-cell h 6 ∙ omega arith
 
@@ -194,7 +194,7 @@ value-held limit absent f tx rs nd t r n h = refl
 value-held limit (present v) f tx rs nd t r n h = rw (tree-held limit v f h)
 
 value-laid : (limit : ℕ) (v : Optional (Tree (List ℕ))) → IfPresent (Fine TextOk limit) v → (tx rs nd : List ℕ) (t r n : ℕ) → In (layValue v) tx rs nd t r n
-    → pick (yes (bit (hasValue v))) (after (table limit nd n 0)) (held n) ≡ held (n + layValue v .size)
+    → pick (yes (bit (hasValue v))) (nodeAfter (table limit nd n 0)) (held n) ≡ held (n + layValue v .size)
 value-laid limit absent f tx rs nd t r n h = ap held (sym (add-zero n))
 value-laid limit (present v) f tx rs nd t r n h = rw (tree-read limit v f h)
 

@@ -16,13 +16,13 @@ use Rattle.varint.specs.Utf8.{utf8}
 use Rattle.varint.proofs.Basics.{pick-both, pick-cases}
 use Rattle.varint.proofs.StoreLaws.{length-part}
 use Rattle.desc.specs.Encoding.{heldIn}
-use Rattle.desc.specs.Layout.{Span, width, endAt, row, rows, kidRows}
+use Rattle.desc.specs.Layout.{NameSpan, width, endAt, nodeOf, nodesOf, kidNodes}
 use Rattle.desc.specs.Table.{cell, table, gather, gatherKids}
 use Rattle.desc.specs.Trees.{Tree, leaf, branch, Kids, none, more, kidCount, size, kidSize}
 use Rattle.desc.specs.WellFormed.{Under, root}
 use Rattle.desc.proofs.GatherFine.{HeldAs, then-held}
 use Rattle.desc.proofs.GotAs.{GotAs}
-use Rattle.desc.proofs.LayoutLaws.{length-rows}
+use Rattle.desc.proofs.LayoutLaws.{length-nodes}
 use Rattle.desc.proofs.NodeFits.{nameAt}
 use Rattle.desc.proofs.TableSound.{Laid, table-laid}
 use Rattle.protocol.specs.Fields.{bit, yes}
@@ -30,7 +30,7 @@ use Rattle.protocol.specs.Ids.{heldId}
 use Rattle.protocol.specs.Page.{rawHeld}
 use Rattle.protocol.specs.Profile.{stepNumbers, heldStep}
 use Rattle.protocol.specs.Startup.{heldClaim}
-use Rattle.protocol.specs.Types.{after}
+use Rattle.protocol.specs.Types.{nodeAfter}
 use Rattle.protocol_laws.specs.Shown.{Entry, number, text, numbers, plain, words, textIn, Column, claimColumns, stepColumns, idColumns, nodeColumns, across, rowShown, rowsShown}
 use Rattle.protocol_laws.proofs.HeldRows.{root-end}
 use Rattle.protocol_laws.proofs.ShownSaid.{numbers-append, textSaid, treeSaid, kidsSaid, idSaid, claimSaid, stepSaid, each, plainly}
@@ -129,43 +129,43 @@ rows-numbers c (suc count) tx l r =
 
 -- Nodes
 
-node-shown : (tx : List ℕ) {nd : List ℕ} {at : ℕ} (tag start len d p count end : ℕ) → At (row tag start len d p count end) nd at
+node-shown : (tx : List ℕ) {nd : List ℕ} {at : ℕ} (tag start len d p count end : ℕ) → At (nodeOf tag start len d p count end) nd at
     → rowShown nodeColumns tx nd at ≡ number tag ∷ textIn tx start len ∷ number d ∷ number p ∷ number count ∷ number end ∷ []
 unfolding rowShown
 node-shown tx {nd} {at} tag start len d p count end h =
     simp add-assoc (rw (at-head h, at-cell h 1, at-cell h 2, at-cell h 3, at-cell h 4, at-cell h 5, at-cell h 6) refl)
 
 -- a tree of so many nodes that shows this
-abbrev TreeShowing : List ℕ → List ℕ → ℕ → Tree Span → List ℕ → ℕ → Tree (List ℕ) → Type 0
+abbrev TreeShowing : List ℕ → List ℕ → ℕ → Tree NameSpan → List ℕ → ℕ → Tree (List ℕ) → Type 0
 TreeShowing tx nd n st x d tr = (size tr ≡ size st) × (rowsShown nodeColumns (size st) tx nd (n * width) ≡ treeSaid tr n x d)
 
-abbrev KidsShowing : List ℕ → List ℕ → ℕ → Kids Span → Kids (List ℕ) → Type 0
+abbrev KidsShowing : List ℕ → List ℕ → ℕ → Kids NameSpan → Kids (List ℕ) → Type 0
 KidsShowing tx nd m ks l =
     (kidCount l ≡ kidCount ks) × (kidSize l ≡ kidSize ks) × (rowsShown nodeColumns (kidSize ks) tx nd (m * width) ≡ kidsSaid l m)
 
 mutual
-  unfolding rows size kidCount gather rowsShown treeSaid
+  unfolding nodesOf size kidCount gather rowsShown treeSaid
 
-  tree-rows-shown : (st : Tree Span) (tx nd : List ℕ) (n : ℕ) (name : Span) (d : ℕ) (x : List ℕ) → textIn tx (name .0) (name .1) ≡ textSaid x
-      → At (rows st n name d) nd (n * width) → HeldAs (TreeShowing tx nd n st x d) (gather tx st)
+  tree-rows-shown : (st : Tree NameSpan) (tx nd : List ℕ) (n : ℕ) (name : NameSpan) (d : ℕ) (x : List ℕ) → textIn tx (name .0) (name .1) ≡ textSaid x
+      → At (nodesOf st n name d) nd (n * width) → HeldAs (TreeShowing tx nd n st x d) (gather tx st)
   tree-rows-shown (leaf tag p) tx nd n name d x e h =
       (refl, rw (node-shown tx tag (name .0) (name .1) d p 0 (n + 1) h, e))
   tree-rows-shown (branch tag ks) tx nd n name d x e h =
-      let R : List ℕ = row tag (name .0) (name .1) d 0 (kidCount ks) (n + 1 + kidSize ks) in
-      let K : List ℕ = kidRows ks (n + 1) in
+      let R : List ℕ = nodeOf tag (name .0) (name .1) d 0 (kidCount ks) (n + 1 + kidSize ks) in
+      let K : List ℕ = kidNodes ks (n + 1) in
       let w : n * width + 7 ≡ (n + 1) * width = omega arith in
       let h₁ : At K nd ((n + 1) * width) = rw w at (at-rest R K h) in
       let r = node-shown tx tag (name .0) (name .1) d 0 (kidCount ks) (n + 1 + kidSize ks) (at-first R K h) in
       then-held (KidsShowing tx nd (n + 1) ks) (TreeShowing tx nd n (branch tag ks) x d) (gatherKids tx ks) _ (kids-rows-shown ks tx nd (n + 1) h₁)
       (λ l s. (ap suc (s .1), rw (r, e, w, s .2, s .0, s .1)))
 
-  kids-rows-shown : (ks : Kids Span) (tx nd : List ℕ) (m : ℕ) → At (kidRows ks m) nd (m * width) → HeldAs (KidsShowing tx nd m ks) (gatherKids tx ks)
+  kids-rows-shown : (ks : Kids NameSpan) (tx nd : List ℕ) (m : ℕ) → At (kidNodes ks m) nd (m * width) → HeldAs (KidsShowing tx nd m ks) (gatherKids tx ks)
   kids-rows-shown none tx nd m h = (refl, refl, refl)
   kids-rows-shown (more name d st ks) tx nd m h =
-      let R : List ℕ = rows st m name d in
-      let K : List ℕ = kidRows ks (m + size st) in
+      let R : List ℕ = nodesOf st m name d in
+      let K : List ℕ = kidNodes ks (m + size st) in
       let Q : Kids (List ℕ) → Type 0 = KidsShowing tx nd m (more name d st ks) in
-      let w : m * width + length R ≡ (m + size st) * width = omega (arith, length-rows st m name d) in
+      let w : m * width + length R ≡ (m + size st) * width = omega (arith, length-nodes st m name d) in
       let w₁ : m * width + size st * width ≡ (m + size st) * width = omega arith in
       let h₁ : At K nd ((m + size st) * width) = rw w at (at-rest R K h) in
       then-held (Showing tx (name .0) (name .1)) Q (nameHeld tx (name .0) (name .1)) _ (name-shown tx (name .0) (name .1))
@@ -176,30 +176,30 @@ mutual
       (λ l b. (ap suc (b .0), rw (a .0, b .1), rows-split nodeColumns (size st) (kidSize ks) tx nd (m * width) ∙ rw (w₁, a .1, b .2, a .0)))))
 
 -- a root has no name
-root-name : {name : Span} {d : ℕ} → Under 0 name d → (name ≡ (0, 0)) × (d ≡ 0)
+root-name : {name : NameSpan} {d : ℕ} → Under 0 name d → (name ≡ (0, 0)) × (d ≡ 0)
 root-name root = (refl, refl)
 
 -- The descriptor at node n, taken out of the memory: where its root says that it ends, what is tested of it, and what its nodes show.
 pub record TreeShown (limit : ℕ) (tx nd : List ℕ) (n : ℕ) (tr : Tree (List ℕ)) : Type 0 where
   pub ends : cell nd n endAt ≡ n + size tr
-  pub next : after (table limit nd n 0) ≡ held (n + size tr)
+  pub next : nodeAfter (table limit nd n 0) ≡ held (n + size tr)
   pub nodes : rowsShown nodeColumns (size tr) tx nd (n * width) ≡ treeSaid tr n [] 0
 
 pub tree-shown : (limit : ℕ) (tx nd : List ℕ) (n : ℕ) → HeldAs (TreeShown limit tx nd n) (heldIn (table limit nd n 0) tx)
 unfolding heldIn part
 tree-shown limit tx nd n = go (table limit nd n 0) refl (table-laid limit nd n 0)
   where
-    go : (g : Got (Tree Span)) → table limit nd n 0 ≡ g → GotAs (Laid limit 0 nd n) g → HeldAs (TreeShown limit tx nd n) (heldIn g tx)
+    go : (g : Got (Tree NameSpan)) → table limit nd n 0 ≡ g → GotAs (Laid limit 0 nd n) g → HeldAs (TreeShown limit tx nd n) (heldIn g tx)
     go (bad e) i o = tt
     go (got st m) i o =
         let u = root-name (o .under (inl refl)) in
         let name : Span = nameAt nd n in
-        let R : List ℕ = rows st n name (cell nd n 3) in
+        let R : List ℕ = nodesOf st n name (cell nd n 3) in
         let k = o .next in
         let l = o .inside in
-        let room : n * width + length R ≤ length nd = omega (arith, length-rows st n name (cell nd n 3)) in
+        let room : n * width + length R ≤ length nd = omega (arith, length-nodes st n name (cell nd n 3)) in
         let h : At R nd (n * width) = at-stored R nd (n * width) room (o .there) in
-        let e : textIn tx (name .0) (name .1) ≡ textSaid [] = rw (ap (λ (s : Span). s .0) (u .0), ap (λ (s : Span). s .1) (u .0)) refl in
+        let e : textIn tx (name .0) (name .1) ≡ textSaid [] = rw (ap (λ (s : NameSpan). s .0) (u .0), ap (λ (s : NameSpan). s .1) (u .0)) refl in
         let d = root-end st n name (cell nd n 3) h in
         held-weaker (TreeShowing tx nd n st [] (cell nd n 3)) (TreeShown limit tx nd n) (gather tx st) (tree-rows-shown st tx nd n name (cell nd n 3) [] e h)
         (λ tr s. record { ends = d ∙ rw (s .0) refl; next = rw (i, k, s .0) refl; nodes = rw (s .0) (s .1 ∙ rw (u .1) refl) })

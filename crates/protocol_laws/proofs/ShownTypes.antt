@@ -20,7 +20,7 @@ use Rattle.desc.proofs.GatherFine.{HeldAs, then-held}
 use Rattle.protocol.specs.Fields.{narrow, bit, yes, Optional}
 use Rattle.protocol.specs.RowsHeld.{heldTimes, allGood}
 use Rattle.protocol.specs.Said.{saidTypes}
-use Rattle.protocol.specs.Types.{Predicate, typeWidth, hasValue, layValue, typeNumbers, after, typeLaid, typesLaid, heldPredicate, heldTypes}
+use Rattle.protocol.specs.Types.{Predicate, typeWidth, hasValue, layValue, typeNumbers, nodeAfter, typeLaid, typesLaid, heldPredicate, heldTypes}
 use Rattle.protocol.specs.declared.message.Message.the-variants as Msg
 use Rattle.protocol_laws.specs.Shown.{number, shown, typeColumns, nodeColumns, rowShown, rowsShown, typeEnd, nodeCount}
 use Rattle.protocol_laws.proofs.FineHeld.{times-held, valueIn}
@@ -36,7 +36,7 @@ module _ (limit : ℕ) (tx rs nd : List ℕ) where
   record ValueShown (has n : ℕ) (v : Optional (Tree (List ℕ))) : Type 0 where
     flag : has ≡ bit (hasValue v)
     ends : pick (eqb has 0) n (cell nd n endAt) ≡ n + layValue v .size
-    next : pick (yes has) (after (table limit nd n 0)) (held n) ≡ held (n + layValue v .size)
+    next : pick (yes has) (nodeAfter (table limit nd n 0)) (held n) ≡ held (n + layValue v .size)
     nodes : rowsShown nodeColumns (layValue v .size) tx nd (n * width) ≡ valueSaid v n
 
   value-shown : (has n : ℕ) → leb has 1 ≡ true → HeldAs (ValueShown has n) (valueIn limit tx nd has n)
@@ -93,7 +93,7 @@ module _ (limit : ℕ) (tx rs nd : List ℕ) where
             test (eqb (at 5) k)
             (λ i.
             let same = eqb-true (at 5) k i in
-            let l : pick (yes (at 4)) (after (table limit nd (at 5 + size key) 0)) (held (at 5 + size key)) ≡ held e = rw (i, ← same, b .next) at h in
+            let l : pick (yes (at 4)) (nodeAfter (table limit nd (at 5 + size key) 0)) (held (at 5 + size key)) ≡ held e = rw (i, ← same, b .next) at h in
             let n : held (at 5 + size key + layValue v .size) ≡ held e = sym (rw (b .ends) at (c .next)) ∙ l in
             let n₁ : at 5 + size key + layValue v .size ≡ e = cc in
             let z : cell nd (at 5) endAt + layValue v .size ≡ e = rw (b .ends) n₁ in

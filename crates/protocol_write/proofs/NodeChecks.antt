@@ -14,7 +14,7 @@ use Rattle.varint.specs.declared.error.Refusal.the-variants.{BadMessage}
 use Rattle.varint.proofs.Basics.{pick-both, pick-cases}
 use Rattle.desc.specs.Emitting.{sized, verdict, thenNames, namesFrom}
 use Rattle.desc.specs.Encoding.{heldIn}
-use Rattle.desc.specs.Layout.{Span, tagAt, countAt, endAt}
+use Rattle.desc.specs.Layout.{NameSpan, tagAt, countAt, endAt}
 use Rattle.desc.specs.Table.{cell, nodeFits, isBranch, kidsAt, closedAt, table}
 use Rattle.desc.specs.Trees.{Tree, Kids}
 use Rattle.desc.specs.declared.write.Emitted.the-variants.{Done, Wrong}
@@ -26,26 +26,26 @@ use Rattle.desc.proofs.TableNames.{table-bad, table-verdict}
 use Rattle.desc.proofs.TableSound.{table-sound, some-size}
 use Rattle.protocol.specs.Fields.{yes}
 use Rattle.protocol.specs.declared.message.RowKind.the-variants.{Predicate}
-use Rattle.protocol.specs.Types.{after, typeLaid, typesLaid}
+use Rattle.protocol.specs.Types.{nodeAfter, typeLaid, typesLaid}
 use Rattle.protocol_write.specs.inner.Checking.{laidAs, LaidAt, valueNames, rowNames}
 use Rattle.protocol_write.specs.declared.checks.Laid.the-variants as L
 
 -- what the size of a tree tells of the node after it
-pub after-wrong : (D : Got (Tree Span)) → sized D ≡ Wrong → L.Wrong ≡ laidAs (after D)
+pub after-wrong : (D : Got (Tree NameSpan)) → sized D ≡ Wrong → L.Wrong ≡ laidAs (nodeAfter D)
 unfolding sized laidAs
 after-wrong (got t e) h = let z : _≡_ {A = ℕ} 0 1 = cc in absurd (omega arith)
 after-wrong (bad x) h = refl
 
-pub after-next : (D : Got (Tree Span)) (next place : ℕ) → sized D ≡ Done next place → L.Next next ≡ laidAs (after D)
+pub after-next : (D : Got (Tree NameSpan)) (next place : ℕ) → sized D ≡ Done next place → L.Next next ≡ laidAs (nodeAfter D)
 unfolding sized laidAs
 after-next (got t e) next place h = let p : e ≡ next = cc in rw p
 after-next (bad x) next place h = let z : _≡_ {A = ℕ} 0 1 = cc in absurd (omega arith)
 
 -- a tree that is read at node n ends where the node says
-abbrev pub Ends : List ℕ → ℕ → Got (Tree Span) → Type 0
+abbrev pub Ends : List ℕ → ℕ → Got (Tree NameSpan) → Type 0
 Ends nd n = GotAs (λ t e. cell nd n endAt ≡ e)
 
-closed-end : (nd : List ℕ) (n tag : ℕ) (K : Got (Kids Span)) → Ends nd n (closedAt tag (cell nd n endAt) K)
+closed-end : (nd : List ℕ) (n tag : ℕ) (K : Got (Kids NameSpan)) → Ends nd n (closedAt tag (cell nd n endAt) K)
 closed-end nd n tag (got ks m) = pick-cases (Ends nd n) (eqb (cell nd n endAt) m) (eqb-true (cell nd n endAt) m) (λ _. tt)
 closed-end nd n tag (bad x) = tt
 
@@ -85,10 +85,10 @@ then-layout : (H : Held ℕ) (k : ℕ → Held ℕ) → LayoutOnly H → ((m : �
 then-layout (held n) k h g = g n
 then-layout (lacks e) k h g = h
 
-after-layout : (limit : ℕ) (nd : List ℕ) (n : ℕ) → LayoutOnly (after (table limit nd n 0))
+after-layout : (limit : ℕ) (nd : List ℕ) (n : ℕ) → LayoutOnly (nodeAfter (table limit nd n 0))
 after-layout limit nd n = go (table limit nd n 0) refl
   where
-    go : (D : Got (Tree Span)) → table limit nd n 0 ≡ D → LayoutOnly (after D)
+    go : (D : Got (Tree NameSpan)) → table limit nd n 0 ≡ D → LayoutOnly (nodeAfter D)
     go (got t e) h = tt
     go (bad x) h = table-bad [] nd limit n 0 x h
 
@@ -96,8 +96,8 @@ type-layout : (limit : ℕ) (rs nd : List ℕ) (r n : ℕ) → LayoutOnly (typeL
 unfolding typeLaid
 type-layout limit rs nd r n =
     pick-both LayoutOnly (eqb (getD rs (r + 5) 0) n)
-    (then-layout (after (table limit nd n 0)) (λ m. pick (yes (getD rs (r + 4) 0)) (after (table limit nd m 0)) (held m)) (after-layout limit nd n)
-    (λ m. pick-both LayoutOnly (yes (getD rs (r + 4) 0)) {a = after (table limit nd m 0)} {b = held m} (after-layout limit nd m) tt))
+    (then-layout (nodeAfter (table limit nd n 0)) (λ m. pick (yes (getD rs (r + 4) 0)) (nodeAfter (table limit nd m 0)) (held m)) (after-layout limit nd n)
+    (λ m. pick-both LayoutOnly (yes (getD rs (r + 4) 0)) {a = nodeAfter (table limit nd m 0)} {b = held m} (after-layout limit nd m) tt))
     refl
 
 -- one turn over the types
@@ -135,24 +135,24 @@ module _ (limit : ℕ) (rs nd : List ℕ) where
     key-elsewhere h = rw (← here, ne-eqb key n h)
 
     module _ (there : key ≡ n) where
-      at-key : typeLaid limit rs nd r n ≡ thenHeld (after (table limit nd n 0)) (λ m. pick (yes (getD rs (r + 4) 0)) (after (table limit nd m 0)) (held m))
+      at-key : typeLaid limit rs nd r n ≡ thenHeld (nodeAfter (table limit nd n 0)) (λ m. pick (yes (getD rs (r + 4) 0)) (nodeAfter (table limit nd m 0)) (held m))
       unfolding typeLaid
       at-key = rw (← here, eq-eqb key n there)
 
-      pub key-wrong : L.Wrong ≡ laidAs (after (table limit nd n 0)) → L.Wrong ≡ laidAs (typeLaid limit rs nd r n)
+      pub key-wrong : L.Wrong ≡ laidAs (nodeAfter (table limit nd n 0)) → L.Wrong ≡ laidAs (typeLaid limit rs nd r n)
       unfolding laidAs
-      key-wrong h = rw at-key (go (after (table limit nd n 0)) h)
+      key-wrong h = rw at-key (go (nodeAfter (table limit nd n 0)) h)
         where
-          go : (H : Held ℕ) → L.Wrong ≡ laidAs H → L.Wrong ≡ laidAs (thenHeld H (λ m. pick (yes (getD rs (r + 4) 0)) (after (table limit nd m 0)) (held m)))
+          go : (H : Held ℕ) → L.Wrong ≡ laidAs H → L.Wrong ≡ laidAs (thenHeld H (λ m. pick (yes (getD rs (r + 4) 0)) (nodeAfter (table limit nd m 0)) (held m)))
           go (held k) e = let z : _≡_ {A = ℕ} 0 1 = cc in absurd (omega arith)
           go (lacks x) e = refl
 
-      module _ (m has : ℕ) (key-is : L.Next m ≡ laidAs (after (table limit nd n 0))) (has-is : has ≡ getD rs (r + 4) 0) where
-        past-key : typeLaid limit rs nd r n ≡ pick (yes has) (after (table limit nd m 0)) (held m)
+      module _ (m has : ℕ) (key-is : L.Next m ≡ laidAs (nodeAfter (table limit nd n 0))) (has-is : has ≡ getD rs (r + 4) 0) where
+        past-key : typeLaid limit rs nd r n ≡ pick (yes has) (nodeAfter (table limit nd m 0)) (held m)
         unfolding laidAs
-        past-key = at-key ∙ rw (← has-is) (go (after (table limit nd n 0)) key-is)
+        past-key = at-key ∙ rw (← has-is) (go (nodeAfter (table limit nd n 0)) key-is)
           where
-            go : (H : Held ℕ) → L.Next m ≡ laidAs H → thenHeld H (λ k. pick (yes has) (after (table limit nd k 0)) (held k)) ≡ pick (yes has) (after (table limit nd m 0)) (held m)
+            go : (H : Held ℕ) → L.Next m ≡ laidAs H → thenHeld H (λ k. pick (yes has) (nodeAfter (table limit nd k 0)) (held k)) ≡ pick (yes has) (nodeAfter (table limit nd m 0)) (held m)
             go (held k) e = let q : k ≡ m = cc in rw q
             go (lacks x) e = let z : _≡_ {A = ℕ} 0 1 = cc in absurd (omega arith)
 
@@ -160,7 +160,7 @@ module _ (limit : ℕ) (rs nd : List ℕ) where
         unfolding laidAs
         no-value z = rw (past-key, eq-eqb has 0 z)
 
-        pub value-laid : (has ≡ 0 → ⊥) → laidAs (after (table limit nd m 0)) ≡ laidAs (typeLaid limit rs nd r n)
+        pub value-laid : (has ≡ 0 → ⊥) → laidAs (nodeAfter (table limit nd m 0)) ≡ laidAs (typeLaid limit rs nd r n)
         value-laid z = rw (past-key, ne-eqb has 0 z)
 
 -- the texts of a type

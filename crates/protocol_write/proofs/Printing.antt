@@ -13,7 +13,7 @@ use Rattle.varint.specs.Leb128.{putBy, putU64}
 use Rattle.varint.proofs.Basics.{clash}
 use Rattle.desc.specs.Emitting.{Pen, putBytes, putNumber}
 use Rattle.desc.specs.Encoding.{heldIn}
-use Rattle.desc.specs.Layout.{Span}
+use Rattle.desc.specs.Layout.{NameSpan}
 use Rattle.desc.specs.Printing.{print}
 use Rattle.desc.specs.Trees.{Tree}
 use Rattle.desc.proofs.EmitPrint.{Roomy, roomy-put, two, nothing, NameIs, name-is, put-print}
@@ -91,7 +91,7 @@ prints-text tx start len x e =
     let n : NameIs tx start len (held x) = rw e at (name-is tx start len) in
     prints-then (number-same (n .0)) (record { stores = λ s h. n .1 s })
 
-pub prints-tree : (tx : List ℕ) (D : Got (Tree Span)) (u : Tree (List ℕ)) → heldIn D tx ≡ held u → Prints (putAt tx D) (print u)
+pub prints-tree : (tx : List ℕ) (D : Got (Tree NameSpan)) (u : Tree (List ℕ)) → heldIn D tx ≡ held u → Prints (putAt tx D) (print u)
 unfolding heldIn putAt
 prints-tree tx (got t e) u h = record { stores = λ s r. put-print tx t u s h r }
 prints-tree tx (bad x) u h = let z : _≡_ {A = ℕ} 0 1 = cc in absurd (omega arith)

@@ -11,13 +11,13 @@ use Rattle.varint.specs.Formats.{Got, got, bad}
 use Rattle.varint.specs.Gathering.{Held, held, lacks}
 use Rattle.varint.proofs.Basics.{test}
 use Rattle.desc.specs.Emitting.{verdict}
-use Rattle.desc.specs.Layout.{Span, endAt}
+use Rattle.desc.specs.Layout.{NameSpan, endAt}
 use Rattle.desc.specs.Table.{cell, table}
 use Rattle.desc.specs.Trees.{Tree}
 use Rattle.desc.specs.declared.write.Names.the-variants.{Good}
 use Rattle.protocol.specs.Fields.{yes}
 use Rattle.protocol.specs.Rows.{widthOf}
-use Rattle.protocol.specs.Types.{after, typeLaid, typesLaid}
+use Rattle.protocol.specs.Types.{nodeAfter, typeLaid, typesLaid}
 use Rattle.protocol.specs.declared.message.RowKind.{RowKind}
 use Rattle.protocol.specs.declared.message.RowKind.the-variants.{Claim, Id, Predicate, Step, Pair}
 use Rattle.protocol_write.specs.inner.Checking.{nodesFine, LaidAt, ValueLaid, RowLaid}
@@ -37,17 +37,17 @@ module _ (limit : ℕ) (rs nd : List ℕ) where
   next-laid kind (suc left) r w p e h = let l : suc left - 1 ≡ left = omega arith in (h .0, rw (l, e) (h .1))
 
   -- a tree that has a node after it
-  after-held : (n m : ℕ) → after (table limit nd n 0) ≡ held m → LaidAt limit nd n × (cell nd n endAt ≡ m)
+  after-held : (n m : ℕ) → nodeAfter (table limit nd n 0) ≡ held m → LaidAt limit nd n × (cell nd n endAt ≡ m)
   after-held n m h = go (table limit nd n 0) refl h (table-end limit nd n 0)
     where
-      go : (D : Got (Tree Span)) → table limit nd n 0 ≡ D → after D ≡ held m → Ends nd n D → LaidAt limit nd n × (cell nd n endAt ≡ m)
+      go : (D : Got (Tree NameSpan)) → table limit nd n 0 ≡ D → nodeAfter D ≡ held m → Ends nd n D → LaidAt limit nd n × (cell nd n endAt ≡ m)
       go (got t e) i k l = let p : e ≡ m = cc in (record { tree = t; next = e; is = i }, l ∙ p)
       go (bad x) i k l = let z : _≡_ {A = ℕ} 0 1 = cc in absurd (omega arith)
 
   -- a value whose root is node k, where the key at node n ends
-  value-held : (has n k m : ℕ) → cell nd n endAt ≡ k → pick (yes has) (after (table limit nd k 0)) (held k) ≡ held m → ValueLaid limit nd has n
+  value-held : (has n k m : ℕ) → cell nd n endAt ≡ k → pick (yes has) (nodeAfter (table limit nd k 0)) (held k) ≡ held m → ValueLaid limit nd has n
   value-held has n k m e h some =
-      let g : after (table limit nd k 0) ≡ held m = rw (ne-eqb has 0 some) at h in
+      let g : nodeAfter (table limit nd k 0) ≡ held m = rw (ne-eqb has 0 some) at h in
       rw e (after-held k m g .0)
 
   -- a type whose key stands at node n
@@ -56,7 +56,7 @@ module _ (limit : ℕ) (rs nd : List ℕ) where
   type-held r n m h =
       test (eqb (getD rs (r + 5) 0) n)
       (λ e.
-      let t = took (after (table limit nd n 0)) _ m (rw e at h) in
+      let t = took (nodeAfter (table limit nd n 0)) _ m (rw e at h) in
       let k = after-held n (t .value) (t .is) in
       rw (eqb-true (getD rs (r + 5) 0) n e) (k .0, value-held (getD rs (r + 4) 0) n (t .value) m (k .1) (t .rest)))
       (λ e. let z : _≡_ {A = ℕ} 0 1 = cc in absurd (omega arith))

@@ -14,7 +14,7 @@ use Rattle.varint.specs.Formats.{Got, got, bad}
 use Rattle.varint.specs.Outs.{declared}
 use Rattle.varint.proofs.FixedLaws.{length-putLe}
 use Rattle.desc.specs.Emitting.{Pen, putBytes, putNumber, putTree, Put, putDesc}
-use Rattle.desc.specs.Layout.{Span}
+use Rattle.desc.specs.Layout.{NameSpan}
 use Rattle.desc.specs.Table.{cell, table}
 use Rattle.desc.specs.Trees.{Tree}
 use Rattle.desc.specs.declared.write.Emitted.{Emitted}
@@ -30,7 +30,7 @@ unfolding putFixed putBytes
 fixed-stored w v d o at a e f = λ i. record { out = e i; place = (f ∙ ap (λ (n : ℕ). declared (at + n)) (sym (length-putLe w v))) i }
 
 -- a descriptor that is laid out, and one that is not
-pub desc-written : (tx : List ℕ) (D : Got (Tree Span)) (s : Pen) (R : Emitted) (o : List ℕ) (next place : ℕ)
+pub desc-written : (tx : List ℕ) (D : Got (Tree NameSpan)) (s : Pen) (R : Emitted) (o : List ℕ) (next place : ℕ)
     → _≡_ {A = Put} (record { answer = R; out = o }) (putDesc tx D s) → R ≡ Done next place → record { out = o; place = place } ≡ putAt tx D s
 unfolding putDesc putAt
 desc-written tx (got tr e) s R o next place h is =
@@ -43,7 +43,7 @@ desc-written tx (bad x) s R o next place h is =
     let z : _≡_ {A = ℕ} 0 1 = cc in
     absurd (omega arith)
 
-pub desc-left : (tx : List ℕ) (D : Got (Tree Span)) (s : Pen) (R : Emitted) (o : List ℕ)
+pub desc-left : (tx : List ℕ) (D : Got (Tree NameSpan)) (s : Pen) (R : Emitted) (o : List ℕ)
     → _≡_ {A = Put} (record { answer = R; out = o }) (putDesc tx D s) → R ≡ Wrong → record { out = o; place = s .place } ≡ putAt tx D s
 unfolding putDesc putAt
 desc-left tx (got tr e) s R o h is =

@@ -11,7 +11,7 @@ ghost use Rattle.desc.specs.declared.write.Names.the-variants.{Good};
 ghost use Rattle.protocol.specs.Page.{rawHeld};
 ghost use Rattle.protocol.specs.Rows.{widthOf};
 ghost use Rattle.protocol.specs.RowsHeld.{allGood};
-ghost use Rattle.protocol.specs.Types.{after, typeNumbers, typeLaid, typesLaid};
+ghost use Rattle.protocol.specs.Types.{nodeAfter, typeNumbers, typeLaid, typesLaid};
 ghost use Rattle.protocol.specs.declared.message.RowKind.the-variants.{Predicate};
 ghost use Rattle.protocol_write.specs.inner.Checking.{rowGood, numbersFine, laidAs, nodesFine, LaidAt, ValueLaid, RowLaid, valueNames, rowNames, rowsNames, rowsFine, startupFine, replyFine, fetchFine, fine};
 use desc::node;
@@ -260,7 +260,7 @@ fn numbers_good(kind: RowKind, rows: &[u64], count: u64) -> bool
 
 // The node after the descriptor whose root is node `n`.
 fn after_desc(nodes: &[u64], n: usize, limit: u64) -> Laid
-    ensures { λ r. ⌜ r ≡ laidAs (after (table limit (now (nodes .entry)) n 0)) ⌝ }
+    ensures { λ r. ⌜ r ≡ laidAs (nodeAfter (table limit (now (nodes .entry)) n 0)) ⌝ }
 {
     match size_desc(nodes, n, limit) {
         Emitted::Wrong => Laid::Wrong,

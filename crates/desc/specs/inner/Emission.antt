@@ -5,7 +5,7 @@ use Rattle.varint.specs.Formats.{Got, got, bad}
 use Rattle.desc.specs.declared.write.Emitted.{Emitted}
 use Rattle.desc.specs.declared.write.Emitted.the-variants.{Done, Wrong}
 use Rattle.desc.specs.Emitting.{Pen, putTree}
-use Rattle.desc.specs.Layout.{Span}
+use Rattle.desc.specs.Layout.{NameSpan}
 use Rattle.desc.specs.Trees.{Tree}
 
 -- a pen over no bytes: what is written moves the place alone
@@ -18,7 +18,7 @@ pub data Emission : Type 0 where
   done : ℕ → Pen → Emission
 
 -- of a table that is not laid out as one nothing is said but that
-unfoldable pub emission : List ℕ → Got (Tree Span) → Pen → Emission
+unfoldable pub emission : List ℕ → Got (Tree NameSpan) → Pen → Emission
 emission tx (got tr next) s = done next (putTree tx tr s)
 emission tx (bad e) s = wrong
 

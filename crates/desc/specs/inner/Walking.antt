@@ -8,7 +8,7 @@ use Rattle.varint.specs.declared.error.Refusal.{Refusal}
 use Rattle.desc.specs.declared.Walked.{Walked}
 use Rattle.desc.specs.declared.Walked.the-variants.{Read, Refused as NotRead}
 use Rattle.desc.specs.Decoding.{Stored, storedAs}
-use Rattle.desc.specs.Layout.{Span, texts}
+use Rattle.desc.specs.Layout.{NameSpan, texts}
 use Rattle.desc.specs.Trees.{Tree, size}
 
 -- a refusal; or the places past what was read in the bytes, the text and the nodes, how many children were read, and what was stored
@@ -17,7 +17,7 @@ pub data Outcome : Type 0 where
   done : (next t m count : ℕ) → Stored → Outcome
 
 -- what reading a descriptor as node n leaves of the buffers tx and nd
-unfoldable pub outcome : Got (Tree (List ℕ)) → (tx : List ℕ) (t : ℕ) (nd : List ℕ) (n : ℕ) (name : Span) (d : ℕ) → Outcome
+unfoldable pub outcome : Got (Tree (List ℕ)) → (tx : List ℕ) (t : ℕ) (nd : List ℕ) (n : ℕ) (name : NameSpan) (d : ℕ) → Outcome
 outcome (bad e) tx t nd n name d = refused e
 outcome (got tr next) tx t nd n name d = done next (t + length (texts tr)) (n + size tr) 0 (storedAs tr tx t nd n name d)
 

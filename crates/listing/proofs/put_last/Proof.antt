@@ -7,7 +7,7 @@ use lib.Seq.{sets}
 use denote.Ref.{now}
 use Rattle.varint.specs.Stores.{part}
 use Rattle.varint.proofs.StoreLaws.{part-all}
-use Rattle.listing.specs.Lines.{column, held, stopped, lastLine}
+use Rattle.listing.specs.Lines.{column, heldWord, stoppedWord, lastLine}
 use Rattle.listing.proofs.LineLaws.{Stored, stored-more}
 use borrow.Author.Needs.{needs}
 use Rattle.listing.proofs.put_last.Statement.{statement}
@@ -57,14 +57,14 @@ same-length c = search needs
 
 returns : tie.Need-returns
 unfolding lastLine
-returns c = closing held _ (now (c .before .before .before .before .before .before .before .before .before .before .before .before .before .args .out)) (ap lastLine (c .before .before .before .before .before .before .before .before .before .before .last .given .1)) (c .before .before .before .before .before .before .copy-bytes .ensures) (c .before .before .put-column .ensures .0) (c .before .before .put-column .ensures .2) (omega arith)
+returns c = closing heldWord _ (now (c .before .before .before .before .before .before .before .before .before .before .before .before .before .args .out)) (ap lastLine (c .before .before .before .before .before .before .before .before .before .before .last .given .1)) (c .before .before .before .before .before .before .copy-bytes .ensures) (c .before .before .put-column .ensures .0) (c .before .before .put-column .ensures .2) (omega arith)
 
 same-length-2 : tie.Need-same-length-2
 same-length-2 c = search needs
 
 returns-2 : tie.Need-returns-2
 unfolding lastLine
-returns-2 c = closing stopped _ (now (c .before .before .before .before .before .before .before .before .before .before .before .before .before .args .out)) (ap lastLine (c .before .before .before .before .before .before .before .before .before .before .last2 .given .1)) (c .before .before .before .before .before .before .copy-bytes2 .ensures) (c .before .before .put-column2 .ensures .0) (c .before .before .put-column2 .ensures .2) (omega arith)
+returns-2 c = closing stoppedWord _ (now (c .before .before .before .before .before .before .before .before .before .before .before .before .before .args .out)) (ap lastLine (c .before .before .before .before .before .before .before .before .before .before .last2 .given .1)) (c .before .before .before .before .before .before .copy-bytes2 .ensures) (c .before .before .put-column2 .ensures .0) (c .before .before .put-column2 .ensures .2) (omega arith)
 
 pub put-last-spec : {M : Type 1} → statement M
 put-last-spec =

@@ -10,7 +10,7 @@ use Rattle.varint.specs.Fixed.{putLe}
 use Rattle.varint.specs.Formats.{Got, got, bad}
 use Rattle.varint.specs.Leb128.{putBy, putU64}
 use Rattle.desc.specs.Emitting.{Pen, putBytes, putNumber, putName, putTree}
-use Rattle.desc.specs.Layout.{Span as Place, endAt}
+use Rattle.desc.specs.Layout.{NameSpan as Place, endAt}
 use Rattle.desc.specs.Table.{cell, table}
 use Rattle.desc.specs.Trees.{Tree}
 use Rattle.protocol.specs.Codes.{modeByte, errorByte, opByte}

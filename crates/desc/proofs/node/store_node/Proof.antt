@@ -1,6 +1,6 @@
 use Prim.Native.Nat.{_*_}
 use denote.Ref.{now}
-use Rattle.desc.specs.Layout.{width, row}
+use Rattle.desc.specs.Layout.{width, nodeOf}
 use Rattle.desc.proofs.RowLaws.{seven, row-past}
 use borrow.Author.Needs.{needs}
 use Rattle.desc.proofs.node.store_node.Statement.{statement}
@@ -59,7 +59,7 @@ returns c =
 returns-2 : tie.Need-returns-2
 returns-2 c =
     let a = c .before .before .args in
-    row-past (now (a .nodes)) (a .n) (row (a .tag) (a .start) (a .len) (a .discriminant) (a .predicate) (a .count) (a .end)) (c .if1 .left)
+    row-past (now (a .nodes)) (a .n) (nodeOf (a .tag) (a .start) (a .len) (a .discriminant) (a .predicate) (a .count) (a .end)) (c .if1 .left)
 
 pub store-node-spec : {M : Type 1} → statement M
 store-node-spec =

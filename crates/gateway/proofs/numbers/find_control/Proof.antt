@@ -1,5 +1,5 @@
 use borrow.Author.Tests.{lt-leb, le-leb}
-use Rattle.gateway.specs.Numbers.{isMessage, messageIn, messageOf}
+use Rattle.gateway.specs.Numbers.{isMessage, messageFrom, messageOf}
 use Rattle.gateway.proofs.FieldLaws.{op-found}
 use borrow.Author.Needs.{needs}
 use Rattle.gateway.proofs.numbers.find_control.Statement.{statement}
@@ -24,7 +24,7 @@ enum-known-op : tie.Need-enum-known-op
 enum-known-op c = search needs
 
 returns : tie.Need-returns
-unfolding messageOf messageIn isMessage
+unfolding messageOf messageFrom isMessage
 returns c = simp (op-found _ (c .before .before .before .before .before .byte-of .ensures) (c .before .before .before .before .from-byte .ensures) (c .before .before .op .given .1), lt-leb _ _ (c .if1 .taken))
 
 element-copy-out-t15 : tie.Need-element-copy-out-t15
@@ -40,11 +40,11 @@ element-copy-out-t25 : tie.Need-element-copy-out-t25
 element-copy-out-t25 c = search needs
 
 returns-2 : tie.Need-returns-2
-unfolding messageOf messageIn isMessage
+unfolding messageOf messageFrom isMessage
 returns-2 c = simp (op-found _ (c .before .before .before .byte-of .ensures) (c .before .before .from-byte .ensures) (c .enum-told .given .1))
 
 returns-3 : tie.Need-returns-3
-unfolding messageOf messageIn isMessage
+unfolding messageOf messageFrom isMessage
 returns-3 c = simp (op-found _ (c .before .before .before .before .before .before .before .before .before .byte-of .ensures) (c .before .before .before .before .before .before .before .before .from-byte .ensures) (c .before .before .before .before .before .before .op .given .1), le-leb _ _ (c .before .before .before .before .if1 .left))
 
 pub find-control-spec : {M : Type 1} → statement M

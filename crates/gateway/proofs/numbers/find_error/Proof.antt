@@ -1,4 +1,4 @@
-use Rattle.gateway.specs.Numbers.{isMessage, messageIn, messageOf}
+use Rattle.gateway.specs.Numbers.{isMessage, messageFrom, messageOf}
 use Rattle.gateway.proofs.FieldLaws.{error-found}
 use borrow.Author.Needs.{needs}
 use Rattle.gateway.proofs.numbers.find_error.Statement.{statement}
@@ -26,11 +26,11 @@ element-copy-out-t14 : tie.Need-element-copy-out-t14
 element-copy-out-t14 c = search needs
 
 returns : tie.Need-returns
-unfolding messageOf messageIn isMessage
+unfolding messageOf messageFrom isMessage
 returns c = simp (error-found _ (c .before .before .before .byte-of .ensures) (c .before .before .from-byte .ensures) (c .enum-told .given .1))
 
 returns-2 : tie.Need-returns-2
-unfolding messageOf messageIn isMessage
+unfolding messageOf messageFrom isMessage
 returns-2 c = simp (error-found _ (c .before .before .before .before .before .before .byte-of .ensures) (c .before .before .before .before .before .from-byte .ensures) (c .before .before .before .code .given .1))
 
 pub find-error-spec : {M : Type 1} → statement M

@@ -1,5 +1,5 @@
 use Rattle.gateway.proofs.FieldLaws.{no-flag}
-use Rattle.gateway.specs.Numbers.{isMessage, messageIn, messageOf}
+use Rattle.gateway.specs.Numbers.{isMessage, messageFrom, messageOf}
 use borrow.Author.Needs.{needs}
 use Rattle.gateway.proofs.numbers.find_fetch.Statement.{statement}
 use Rattle.gateway.proofs.numbers.find_fetch.Tie as tie
@@ -17,15 +17,15 @@ element-copy-out-t18 : tie.Need-element-copy-out-t18
 element-copy-out-t18 c = search needs
 
 returns : tie.Need-returns
-unfolding messageOf messageIn isMessage
+unfolding messageOf messageFrom isMessage
 returns c = simp (c .before .match .keys1)
 
 returns-2 : tie.Need-returns-2
-unfolding messageOf messageIn isMessage
+unfolding messageOf messageFrom isMessage
 returns-2 c = simp (c .before .before .match .keys2)
 
 returns-3 : tie.Need-returns-3
-unfolding messageOf messageIn isMessage
+unfolding messageOf messageFrom isMessage
 returns-3 c = simp (no-flag _ (c .match .rest .0 .1) (c .match .rest .1))
 
 pub find-fetch-spec : {M : Type 1} → statement M

@@ -1,5 +1,5 @@
 use borrow.Author.Tests.{lt-leb, le-leb}
-use Rattle.gateway.specs.Numbers.{isMessage, messageIn, messageOf}
+use Rattle.gateway.specs.Numbers.{isMessage, messageFrom, messageOf}
 use Rattle.gateway.proofs.FieldLaws.{op-found}
 use borrow.Author.Needs.{needs}
 use Rattle.gateway.proofs.numbers.find_reply.Statement.{statement}
@@ -36,7 +36,7 @@ enum-told-3 : tie.Need-enum-told-3
 enum-told-3 c = search needs
 
 returns : tie.Need-returns
-unfolding messageOf messageIn isMessage
+unfolding messageOf messageFrom isMessage
 returns c = simp (op-found _ (c .before .before .before .before .before .before .before .byte-of .ensures) (c .before .before .before .before .before .before .from-byte .ensures) (c .before .before .before .before .op .given .1), c .before .enum-told3 .given .1, lt-leb _ _ (c .if1 .taken))
 
 element-copy-out-t25 : tie.Need-element-copy-out-t25
@@ -52,19 +52,19 @@ enum-told-4 : tie.Need-enum-told-4
 enum-told-4 c = search needs
 
 returns-2 : tie.Need-returns-2
-unfolding messageOf messageIn isMessage
+unfolding messageOf messageFrom isMessage
 returns-2 c = simp (op-found _ (c .before .before .before .byte-of .ensures) (c .before .before .from-byte .ensures) (c .enum-told .given .1))
 
 returns-3 : tie.Need-returns-3
-unfolding messageOf messageIn isMessage
+unfolding messageOf messageFrom isMessage
 returns-3 c = simp (op-found _ (c .before .before .before .before .before .before .before .before .byte-of .ensures) (c .before .before .before .before .before .before .before .from-byte .ensures) (c .before .before .before .before .before .op .given .1), c .before .before .enum-told2 .given .1)
 
 returns-4 : tie.Need-returns-4
-unfolding messageOf messageIn isMessage
+unfolding messageOf messageFrom isMessage
 returns-4 c = simp (op-found _ (c .before .before .before .before .before .before .before .before .before .before .byte-of .ensures) (c .before .before .before .before .before .before .before .before .before .from-byte .ensures) (c .before .before .before .before .before .before .before .op .given .1), c .before .before .before .before .enum-told3 .given .1, le-leb _ _ (c .before .before .before .if1 .left))
 
 returns-5 : tie.Need-returns-5
-unfolding messageOf messageIn isMessage
+unfolding messageOf messageFrom isMessage
 returns-5 c = simp (op-found _ (c .before .before .before .before .before .before .byte-of .ensures) (c .before .before .before .before .before .from-byte .ensures) (c .before .before .before .op .given .1), c .enum-told4 .given .1)
 
 pub find-reply-spec : {M : Type 1} → statement M

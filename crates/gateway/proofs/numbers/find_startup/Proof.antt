@@ -1,5 +1,5 @@
 use borrow.Author.Tests.{lt-leb, le-leb}
-use Rattle.gateway.specs.Numbers.{isMessage, messageIn, messageOf}
+use Rattle.gateway.specs.Numbers.{isMessage, messageFrom, messageOf}
 use Rattle.gateway.proofs.FieldLaws.{mode-found}
 use borrow.Author.Needs.{needs}
 use Rattle.gateway.proofs.numbers.find_startup.Statement.{statement}
@@ -9,7 +9,7 @@ element-copy-out-version : tie.Need-element-copy-out-version
 element-copy-out-version c = search needs
 
 returns : tie.Need-returns
-unfolding messageOf messageIn isMessage
+unfolding messageOf messageFrom isMessage
 returns c = simp (lt-leb _ _ (c .if1 .taken))
 
 element-copy-out-byte-of : tie.Need-element-copy-out-byte-of
@@ -43,11 +43,11 @@ element-copy-out-t26 : tie.Need-element-copy-out-t26
 element-copy-out-t26 c = search needs
 
 returns-2 : tie.Need-returns-2
-unfolding messageOf messageIn isMessage
+unfolding messageOf messageFrom isMessage
 returns-2 c = simp (le-leb _ _ (c .before .before .before .before .before .if1 .left), mode-found _ (c .before .before .before .byte-of .ensures) (c .before .before .from-byte .ensures) (c .enum-told .given .1))
 
 returns-3 : tie.Need-returns-3
-unfolding messageOf messageIn isMessage
+unfolding messageOf messageFrom isMessage
 returns-3 c = simp (le-leb _ _ (c .before .before .before .before .before .before .before .before .before .before .if1 .left), mode-found _ (c .before .before .before .before .before .before .before .before .byte-of .ensures) (c .before .before .before .before .before .before .before .from-byte .ensures) (c .before .before .before .before .before .mode .given .1))
 
 pub find-startup-spec : {M : Type 1} → statement M

@@ -1,5 +1,5 @@
 use borrow.Author.Tests.{ne-eqb}
-use Rattle.gateway.specs.Numbers.{isMessage, messageIn, messageOf}
+use Rattle.gateway.specs.Numbers.{isMessage, messageFrom, messageOf}
 use borrow.Author.Needs.{needs}
 use Rattle.gateway.proofs.numbers.message_of.Statement.{statement}
 use Rattle.gateway.proofs.numbers.message_of.Tie as tie
@@ -65,15 +65,15 @@ returns-3 : tie.Need-returns-3
 returns-3 c = simp (c .before .match .keys3, c .find-error .ensures)
 
 returns-4 : tie.Need-returns-4
-unfolding messageOf messageIn isMessage
+unfolding messageOf messageFrom isMessage
 returns-4 c = simp (c .before .before .match .keys4)
 
 returns-5 : tie.Need-returns-5
-unfolding messageOf messageIn isMessage
+unfolding messageOf messageFrom isMessage
 returns-5 c = simp (c .before .match .keys5)
 
 returns-6 : tie.Need-returns-6
-unfolding messageOf messageIn isMessage
+unfolding messageOf messageFrom isMessage
 returns-6 c = simp (c .before .match .keys6)
 
 returns-7 : tie.Need-returns-7
@@ -83,11 +83,11 @@ returns-8 : tie.Need-returns-8
 returns-8 c = simp (c .before .match .keys8, c .find-reply .ensures)
 
 returns-9 : tie.Need-returns-9
-unfolding messageOf messageIn isMessage
+unfolding messageOf messageFrom isMessage
 returns-9 c = simp (c .before .match .keys9)
 
 returns-10 : tie.Need-returns-10
-unfolding messageOf messageIn isMessage
+unfolding messageOf messageFrom isMessage
 returns-10 c = simp (c .before .before .before .before .before .match .keys10)
 
 returns-11 : tie.Need-returns-11
@@ -97,7 +97,7 @@ returns-12 : tie.Need-returns-12
 returns-12 c = simp (c .before .match .keys12, c .find-listing-digest .ensures)
 
 returns-13 : tie.Need-returns-13
-unfolding messageOf messageIn isMessage
+unfolding messageOf messageFrom isMessage
 returns-13 c = simp (ne-eqb _ _ (c .match .rest .0 .0 .0 .0 .0 .0 .0 .0 .0 .0 .0 .1), ne-eqb _ _ (c .match .rest .0 .0 .0 .0 .0 .0 .0 .0 .0 .0 .1), ne-eqb _ _ (c .match .rest .0 .0 .0 .0 .0 .0 .0 .0 .0 .1), ne-eqb _ _ (c .match .rest .0 .0 .0 .0 .0 .0 .0 .0 .1), ne-eqb _ _ (c .match .rest .0 .0 .0 .0 .0 .0 .0 .1), ne-eqb _ _ (c .match .rest .0 .0 .0 .0 .0 .0 .1), ne-eqb _ _ (c .match .rest .0 .0 .0 .0 .0 .1), ne-eqb _ _ (c .match .rest .0 .0 .0 .0 .1), ne-eqb _ _ (c .match .rest .0 .0 .0 .1), ne-eqb _ _ (c .match .rest .0 .0 .1), ne-eqb _ _ (c .match .rest .0 .1), ne-eqb _ _ (c .match .rest .1))
 
 pub message-of-spec : {M : Type 1} → statement M

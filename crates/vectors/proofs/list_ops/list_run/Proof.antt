@@ -15,7 +15,7 @@ Inv-loop bytes size hold₀ text₀ rows₀ nodes₀ page₀ answer₀ run₀ tu
     × (length answer ≡ length answer₀)
 
 abbrev μ-loop : tie.MeasureT-loop
-μ-loop bytes size hold₀ text₀ rows₀ nodes₀ page₀ answer₀ run₀ turns₀ hold text rows nodes page answer run turns = 
+μ-loop bytes size hold₀ text₀ rows₀ nodes₀ page₀ answer₀ run₀ turns₀ hold text rows nodes page answer run turns =
     turns
 
 loop-holds : tie.Need-loop-holds Inv-loop μ-loop
