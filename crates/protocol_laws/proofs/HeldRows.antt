@@ -10,7 +10,7 @@ use lib.ListN.{length, length-append}
 use borrow.Author.Tests.{le-ltb, eq-eqb}
 use Rattle.varint.specs.Choice.{pick}
 use Rattle.varint.specs.Formats.{got}
-use Rattle.varint.specs.Gathering.{Held, held, nameHeld, textHeld, thenHeld}
+use Rattle.varint.specs.Gathering.{Held, held, nameHeld, textHeld}
 use Rattle.varint.specs.RoundTrips.{All, TextOk}
 use Rattle.varint.specs.Stores.{part}
 use Rattle.varint.specs.Utf8.{utf8}
@@ -33,6 +33,7 @@ use Rattle.protocol.specs.Startup.{claimWidth, layClaim, heldClaim}
 use Rattle.protocol.specs.Types.{Predicate, typeWidth, hasValue, layValue, layPredicate, typeNumbers, nodeAfter, typeLaid, typesLaid, heldPredicate}
 use Rattle.protocol.proofs.RowEnds.{predicate-rows, predicate-nodes}
 use Rattle.protocol_laws.specs.Fine.{IfPresent}
+use Rattle.protocol_laws.proofs.FineHeld.{valueIn}
 use Rattle.protocol_laws.proofs.Standing.{At, at-first, at-room, at-cell, at-head, In, in-first, in-rest}
 
 -- Flags
@@ -189,7 +190,7 @@ SoundPredicate limit p =
 
 -- the value at node n, if there is one
 value-held : (limit : ℕ) (v : Optional (Tree (List ℕ))) → IfPresent (Fine TextOk limit) v → (tx rs nd : List ℕ) (t r n : ℕ) → In (layValue v) tx rs nd t r n
-    → pick (yes (bit (hasValue v))) (thenHeld (heldIn (table limit nd n 0) tx) (λ x. held (present x))) (held absent) ≡ held v
+    → valueIn limit tx nd (bit (hasValue v)) n ≡ held v
 value-held limit absent f tx rs nd t r n h = refl
 value-held limit (present v) f tx rs nd t r n h = rw (tree-held limit v f h)
 
