@@ -46,7 +46,7 @@ heldWord = 0x68 ∷ 0x65 ∷ 0x6C ∷ 0x64 ∷ 0x20 ∷ []
 abbrev pub stoppedWord : List ℕ
 stoppedWord = 0x73 ∷ 0x74 ∷ 0x6F ∷ 0x70 ∷ 0x70 ∷ 0x65 ∷ 0x64 ∷ 0x20 ∷ []
 
--- "Last: `heldWord` and the count of header and payload bytes held, or `stoppedWord` and the number."
+-- "Last: `held` and the count of header and payload bytes held, or `stopped` and the number."
 unfoldable pub lastLine : Last → List ℕ
 lastLine (Held n) = heldWord ++ column n 0x0A
 lastLine (Stopped n) = stoppedWord ++ column n 0x0A

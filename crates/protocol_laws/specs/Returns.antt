@@ -55,8 +55,8 @@ pub record Encoded (max limit : ℕ) (message : Message) (tx rs nd : List ℕ) (
   pub out : List ℕ
   pub sent : encodeMessage max limit message tx rs nd out ≡ record { answer = Wrote n; out = out′ }
 
--- "Decoding an encoded message into buffers that suffice returns its fields and texts": the n bytes are decoded as a message of its number, into any
--- buffers, with anything in them.
+-- Demand 2, first half: decoding an encoded message into buffers that suffice returns its fields and texts. The n bytes are decoded as a message of its
+-- number, into any buffers, with anything in them.
 abbrev pub Returns : (max limit : ℕ) → Type 0
 Returns max limit =
     (message : Message) (tx rs nd : List ℕ) (n : ℕ) (out′ : List ℕ) → Encoded max limit message tx rs nd n out′ → (t r k : List ℕ)
@@ -89,8 +89,8 @@ pub record Decoded (max limit : ℕ) (s : List ℕ) (message : Message) (tx rs n
   pub k : List ℕ
   pub left : decodeMessage max limit entry s t r k ≡ record { answer = Accepted message; text = tx; rows = rs; nodes = nd }
 
--- "For startup, ready, complete, page, fetch and listing digest encoding what was decoded returns the bytes": out is s and then zeros; or, where s does
--- not fit, as it was, and the answer is 16(5) with the length of s.
+-- Demand 2, second half: for startup, ready, complete, page, fetch and listing digest encoding what was decoded returns the bytes. Out is s and then zeros;
+-- or, where s does not fit, as it was, and the answer is 16(5) with the length of s.
 abbrev pub BytesReturn : (max limit : ℕ) → Type 0
 BytesReturn max limit =
     (s : List ℕ) (message : Message) (tx rs nd : List ℕ) → Decoded max limit s message tx rs nd → (out : List ℕ)
