@@ -19,7 +19,8 @@ use Rattle.desc.specs.Encoding.{heldIn}
 use Rattle.desc.specs.Layout.{NameSpan, width, endAt, texts, placed, nodesOf}
 use Rattle.desc.specs.Table.{cell, table, gather}
 use Rattle.desc.specs.Trees.{Tree, leaf, branch, size}
-use Rattle.desc.specs.WellFormed.{Fine, root}
+use Rattle.desc.specs.WellFormed.{Fine}
+use Rattle.desc.proofs.Tags.{root}
 use Rattle.desc.proofs.GatherPlaced.{gather-placed, placed-fine}
 use Rattle.desc.proofs.LayoutLaws.{size-placed, length-placed}
 use Rattle.desc.proofs.TableRows.{table-rows}

@@ -19,7 +19,7 @@ use Rattle.desc.specs.Encoding.{heldIn}
 use Rattle.desc.specs.Layout.{NameSpan, width, endAt, nodeOf, nodesOf, kidNodes}
 use Rattle.desc.specs.Table.{cell, table, gather, gatherKids}
 use Rattle.desc.specs.Trees.{Tree, leaf, branch, Kids, none, more, kidCount, size, kidSize}
-use Rattle.desc.specs.WellFormed.{Under, root}
+use Rattle.desc.proofs.Tags.{Under, root}
 use Rattle.desc.proofs.GatherFine.{HeldAs, then-held}
 use Rattle.desc.proofs.GotAs.{GotAs}
 use Rattle.desc.proofs.LayoutLaws.{length-nodes}
@@ -193,7 +193,7 @@ tree-shown limit tx nd n = go (table limit nd n 0) refl (table-laid limit nd n 0
     go (bad e) i o = tt
     go (got st m) i o =
         let u = root-name (o .under (inl refl)) in
-        let name : Span = nameAt nd n in
+        let name : NameSpan = nameAt nd n in
         let R : List ℕ = nodesOf st n name (cell nd n 3) in
         let k = o .next in
         let l = o .inside in
