@@ -10,6 +10,9 @@ use frame::receiver::Receiver;
 use listing::Last;
 use varint::error::code_of;
 
+// Room for the lines of 65,536 bytes: at most 84 bytes for each nine of them, and 84 more.
+const PAGE: usize = 655360;
+
 // Room for the last line.
 const LAST_LINE: usize = 29;
 
@@ -196,13 +199,18 @@ fn list_run(
     run
 }
 
-// Lends the run its memory, text of 65,536 bytes as the hold has, rows and nodes of 8,192 numbers, and a page with room for the lines of 4,096 bytes.
+// A function of its own, since the prover does not write so long an array out.
+fn empty_page() -> [u8; PAGE] {
+    [0; PAGE]
+}
+
+// Lends the run its memory: text of 65,536 bytes as the hold has, rows and nodes of 8,192 numbers.
 fn list_opened(receiver: Receiver, hold: &mut [u8]) {
-    let mut chunk = io::buffer();
+    let mut chunk = io::large_buffer();
     let mut text = io::large_buffer();
     let mut rows = [0u64; 8192];
     let mut nodes = [0u64; 8192];
-    let mut page = io::large_buffer();
+    let mut page = empty_page();
     let run = list_run(
         receiver,
         &mut chunk,
