@@ -10,8 +10,11 @@ use frame::receiver::Receiver;
 use listing::Last;
 use varint::error::code_of;
 
-// Room for the lines of 65,536 bytes: at most 84 bytes for each nine of them, and 84 more.
-const PAGE: usize = 655360;
+// How much of a run is read at once.
+const CHUNK: usize = 32768;
+
+// Room for the lines of so much: at most 84 bytes for each nine bytes, and 84 more.
+const PAGE: usize = 307200;
 
 // Room for the last line.
 const LAST_LINE: usize = 29;
@@ -206,7 +209,7 @@ fn empty_page() -> [u8; PAGE] {
 
 // Lends the run its memory: text of 65,536 bytes as the hold has, rows and nodes of 8,192 numbers.
 fn list_opened(receiver: Receiver, hold: &mut [u8]) {
-    let mut chunk = io::large_buffer();
+    let mut chunk = [0u8; CHUNK];
     let mut text = io::large_buffer();
     let mut rows = [0u64; 8192];
     let mut nodes = [0u64; 8192];
