@@ -57,7 +57,7 @@ pub record Listing : Type 0 where
   pub len : ℕ
   pub page : List ℕ
 
--- The lines of a run stand from the page's start on. What lies past its end is not stored, and is counted all the same.
+-- The lines stand from the page's start on. What lies past its end is not stored and is counted all the same; "a length over 2^64−1 is declared as 2^64−1".
 unfoldable pub listed : Run → (page : List ℕ) → Listing
 listed r page = record {
   world = r .world;
@@ -72,7 +72,7 @@ listingOf l hold text rows nodes page = record { world = worldOf (l .receiver) h
 
 -- ---- a run
 
--- all that is printed of a run
+-- all that is printed of a run: a line for each frame, and the last line
 unfoldable pub textOf : Run → List ℕ
 textOf r = linesOf (r .events) ++ lastLine (lastOf (r .events) (r .world .receiver))
 
@@ -87,7 +87,7 @@ printed w last (p ∷ ps) =
       | Stopped n ↦ lastLine (Stopped n)
     ]
 
--- What is printed after an accepted opening is the text of document 01's reading of the joined bytes: how the input was cut never shows.
+-- After an accepted opening, whatever the pieces, what is printed is the text of document 01's reading of the joined bytes: how the input was cut never shows.
 abbrev pub EveryListing : Type 0
 EveryListing = (before : Receiver) (table hold : List ℕ) (lent : Lent) (pieces : List (List ℕ)) → length table ≡ 256
     → printed (opened (opens before table hold) lent) (Held 0) pieces ≡ textOf (reading editor (record { table = table; room = length hold }) (joined pieces) lent)

@@ -1,4 +1,5 @@
-// The lines that the lister prints, as bytes in a lent buffer. A writer stores what lies inside the buffer and answers how many bytes its text has.
+// The lines that the lister prints, as bytes in a lent buffer: of a frame, of a piece of a run, and of its end. A writer stores what lies inside the buffer and
+// answers how many bytes its text has.
 ghost use mathlib.Core.Path.{_≡_};
 ghost use mathlib.Core.List.{[], _∷_};
 ghost use Prim.Native.Nat.{_+_, _*_, _≤_, min};

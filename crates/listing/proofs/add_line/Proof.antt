@@ -1,6 +1,6 @@
-use mathlib.Core.Path.{_≡_, _∙_, ap}
+use mathlib.Core.Path.{_≡_, _∙_}
 use mathlib.Core.List.{List}
-use Prim.Native.Nat.{ℕ, _+_, _-_, _≤_, _<_, min}
+use Prim.Native.Nat.{ℕ, _-_, _≤_, min}
 use native.Mathlib.Omega.{arith}
 use borrow.Rule.Slice.PartMut.{midOf, putMid}
 use lib.ListN.{length}
@@ -11,10 +11,6 @@ use Rattle.listing.proofs.PageLaws.{sets-past, sets-part}
 use borrow.Author.Needs.{needs}
 use Rattle.listing.proofs.add_line.Statement.{statement}
 use Rattle.listing.proofs.add_line.Tie as tie
-use Rattle.listing.proofs.add_line.Reads as reads
-use Rattle.listing.proofs.add_line.Lts as lts
-use Rattle.listing.proofs.least.Reads as least-reads
-use Rattle.listing.proofs.put_line.Reads as put-line-reads
 
 -- a line in the part of the page from `from` on
 placed : (line page : List ℕ) (at from : ℕ) {part : List ℕ} → from ≡ min at (length page) → part ≡ sets (midOf from (length page - from) page) 0 line

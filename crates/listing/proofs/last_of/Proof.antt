@@ -1,9 +1,6 @@
 use borrow.Author.Needs.{needs}
 use Rattle.listing.proofs.last_of.Statement.{statement}
 use Rattle.listing.proofs.last_of.Tie as tie
-use Rattle.listing.proofs.last_of.Reads as reads
-use Rattle.listing.proofs.last_of.Lts as lts
-use Rattle.listing.proofs.held_of.Reads as held-of-reads
 
 enum-told : tie.Need-enum-told
 enum-told c = search needs
