@@ -25,7 +25,8 @@ use Rattle.frame.proofs.OfferUses.{offer-within, handed-uses}
 use Rattle.frame.proofs.DrivingLaws.{driving-none, driving-more, driving-handed, driving-stopped, driving-refused, handed-takes}
 use Rattle.listing.specs.declared.Last.{Last}
 use Rattle.listing.specs.Lines.{lineOf, numberOf}
-use Rattle.listing.specs.Listing.{linesOf, lastOf, lastBy, Listing, listed}
+use Rattle.listing.specs.Listing.{linesOf, lastOf, Listing, listed}
+use Rattle.listing.specs.inner.Lasts.{lastBy}
 use Rattle.listing.proofs.PageLaws.{sets-past}
 
 -- the furthest place that is counted

@@ -13,9 +13,7 @@ use Rattle.protocol.specs.Decoding.{decodeMessage, settled, fitted}
 use Rattle.protocol.specs.Ready.{readReady, layReady}
 use Rattle.protocol.specs.Said.{readMessage, readEntry, lay}
 use Rattle.frame.specs.declared.receiver.Receiver.{Receiver}
-use Rattle.frame.specs.declared.receiver.Outcome.{Outcome}
 use Rattle.frame.specs.declared.receiver.Outcome.the-variants as O
-use Rattle.frame.specs.declared.receiver.Outcome.the-variants.{More, Handed}
 use Rattle.frame.specs.Frames.{kindOf, streamOf, lengthOf}
 use Rattle.frame.specs.Worlds.{World, Lent, editor, receiverOf, running, pad}
 use Rattle.frame.specs.Reading.{Event, frame, halt, denied, Run, done, after, judge, decodedKind, reading}
@@ -40,13 +38,6 @@ lastOf [] r = Held (heldOf r)
 lastOf (frame h a b ∷ es) r = lastOf es r
 lastOf (halt e ∷ es) r = Stopped (e .number)
 lastOf (denied e ∷ es) r = Stopped (e .number)
-
--- the same by the last outcome of an offer
-abbrev pub lastBy : Outcome → Receiver → Last
-lastBy More r = Held (heldOf r)
-lastBy (Handed h a) r = Held (heldOf r)
-lastBy (O.Stopped e) r = Stopped (e .number)
-lastBy (O.Refused e) r = Stopped (e .number)
 
 -- ---- a piece
 
