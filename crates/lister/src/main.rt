@@ -92,6 +92,9 @@ fn write_some(text: &[u8]) -> usize
         if 0 < put {
             return io::count(put, text);
         }
+        if put == 0 {
+            break; // no error, so that errno says nothing of it
+        }
         if os::errno() != libc::EINTR {
             break;
         }
