@@ -150,7 +150,7 @@ impl Message {
     // The most ids that a fetch may ask for.
     pub const MAX_FETCH: u64 = 4096;
 
-    // `VERSION` for callers of functions alone; its contract holds the constant to the definition.
+    // `VERSION` as a function, since a contract can hold a function's answer to a definition and not a constant.
     pub fn spoken_version() -> u32
         ensures { λ r. ⌜ r ≡ spokenVersion ⌝ }
     {
