@@ -3,7 +3,7 @@
 use mathlib.Core.Bool.{true}
 use mathlib.Core.Path.{_≡_, refl, sym, _∙_, ap}
 use mathlib.Core.List.{List, []}
-use Prim.Native.Nat.{ℕ, _-_, _*_, _^_, _<_}
+use Prim.Native.Nat.{ℕ, _-_, _*_}
 use native.Mathlib.Nat.{zero-add}
 use native.Mathlib.Omega.{arith}
 use lib.Dec.{ltb}
@@ -13,7 +13,7 @@ use borrow.Author.Tests.{ltb-false}
 use Rattle.varint.specs.Formats.{Got, got, bad}
 use Rattle.varint.specs.Gathering.{Held, held, lacks}
 use Rattle.varint.specs.Outs.{Sent, send, wrote}
-use Rattle.varint.specs.RoundTrips.{Bytes, Stands}
+use Rattle.varint.specs.RoundTrips.{Stands}
 use Rattle.varint.specs.Stores.{part, filled}
 use Rattle.varint.specs.declared.Written.{Written}
 use Rattle.varint.specs.declared.Written.the-variants.{Wrote, Refused as NotWritten}
@@ -26,12 +26,13 @@ use Rattle.desc.specs.Encoding.{heldIn, sentDesc, encodeDesc}
 use Rattle.desc.specs.Layout.{width, texts}
 use Rattle.desc.specs.Printing.{print}
 use Rattle.desc.specs.Reading.{desc}
+use Rattle.desc.specs.Returns.{Decodes, DecodeWritten, EncodeDecoded}
 use Rattle.desc.specs.Table.{table}
 use Rattle.desc.specs.Trees.{Tree, size}
 use Rattle.desc.proofs.FineRead.{desc-fine}
 use Rattle.desc.proofs.GatherFine.{held-fine}
 use Rattle.desc.proofs.OnePrint.{print-read}
-use Rattle.desc.proofs.ThereAndBack.{decode-whole, encode-laid}
+use Rattle.desc.proofs.ThereAndBack.{decode-whole, held-decoded, encode-laid}
 
 -- what stands at the start of bytes
 stands-part : (x s : List ℕ) (q : ℕ) → Stands x s 0 q → x ≡ part s 0 q
@@ -46,9 +47,7 @@ not-accepted h = let z : _≡_ {A = ℕ} 0 1 = cc in absurd (omega arith)
 abbrev Again : ℕ → ℕ → List ℕ → List ℕ → ℕ → DecodedDesc → Type 0
 Again max limit s out used l = l .answer ≡ Accepted used → encodeDesc max limit (l .text) (l .nodes) out ≡ send max (part s 0 used) out
 
--- Bytes that were accepted: the buffers as they were left are encoded to the bytes that were used, and to no others.
-pub encode-decoded : (max limit : ℕ) (s tx rs nd out : List ℕ) (used : ℕ) → Bytes s → decodeDesc max limit s tx rs nd .answer ≡ Accepted used
-    → encodeDesc max limit (decodeDesc max limit s tx rs nd .text) (decodeDesc max limit s tx rs nd .nodes) out ≡ send max (part s 0 used) out
+pub encode-decoded : EncodeDecoded
 unfolding decodeDesc settledDesc
 encode-decoded max limit s tx rs nd out used B =
     pick-cases (Again max limit s out used) (ltb max (length s)) (λ _. not-accepted)
@@ -66,13 +65,6 @@ encode-decoded max limit s tx rs nd out used B =
         encode-laid limit tr f max tx nd out (ltb-false (length tx) (length (texts tr)) t) (ltb-false (length nd) (size tr * width) n)
         ∙ ap (λ (x : List ℕ). send max x out) (stands-part (print tr) s q (print-read limit limit s 0 tr q B (omega arith) i) ∙ ap (part s 0) u)))
 
--- x are the bytes of the tree that the memory holds, and are decoded to it
-pub record Decodes (max limit : ℕ) (tx nd x : List ℕ) : Type 0 where
-  pub tree : Tree (List ℕ)
-  pub holds : heldIn (table limit nd 0 0) tx ≡ held tree
-  pub bytes : x ≡ print tree
-  pub decodes : (tx′ rs nd′ : List ℕ) → decodeDesc max limit x tx′ rs nd′ ≡ settledDesc (got tree (length x)) tx′ rs nd′
-
 -- what was refused was not written
 pub not-wrote : {X : Type 0} {e : Refusal} {n : ℕ} → NotWritten e ≡ Wrote n → X
 not-wrote h = let z : _≡_ {A = ℕ} 0 1 = cc in absurd (omega arith)
@@ -80,10 +72,7 @@ not-wrote h = let z : _≡_ {A = ℕ} 0 1 = cc in absurd (omega arith)
 abbrev Written-is : ℕ → ℕ → List ℕ → List ℕ → ℕ → Sent → Type 0
 Written-is max limit tx nd n r = r .answer ≡ Wrote n → Decodes max limit tx nd (part (r .out) 0 n)
 
--- Memory that was encoded: the bytes that were written are those of the tree that it holds, and are decoded to that tree.
-pub decode-written : (max limit : ℕ) (tx nd out : List ℕ) (n : ℕ) → length tx < 2 ^ 64 → length nd < 2 ^ 64
-    → encodeDesc max limit tx nd out .answer ≡ Wrote n
-    → Decodes max limit tx nd (part (encodeDesc max limit tx nd out .out) 0 n)
+pub decode-written : DecodeWritten
 unfolding encodeDesc sentDesc send wrote
 decode-written max limit tx nd out n a b = on (heldIn (table limit nd 0 0) tx) refl
   where
@@ -107,4 +96,5 @@ decode-written max limit tx nd out n a b = on (heldIn (table limit nd 0 0) tx) r
           holds = i;
           bytes = refl;
           decodes = λ tx′ rs nd′. decode-whole limit tr f max tx′ rs nd′ most;
+          again = held-decoded limit tr f;
         })))

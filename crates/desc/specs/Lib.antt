@@ -4,6 +4,7 @@ pub mod Encoding
 pub mod Layout
 pub mod Printing
 pub mod Reading
+pub mod Returns
 pub mod Table
 pub mod Trees
 pub mod Tried

@@ -20,6 +20,7 @@ use Rattle.frame.specs.declared.HeaderAnswer.{HeaderAnswer}
 use Rattle.frame.specs.declared.HeaderAnswer.the-variants.{Header, Refused}
 use Rattle.frame.specs.declared.FrameAnswer.{FrameAnswer}
 use Rattle.frame.specs.declared.FrameAnswer.the-variants as F
+use Rattle.frame.specs.FrameReturns.{FrameReturns, FrameBytesReturn}
 use Rattle.frame.specs.Frames.{kindOf, streamOf, lengthOf, headerOf, frameBytes, decodeHeader, framed, decodeFrame, encodeFrame}
 
 pub never : {X : Type 0} → _≡_ {A = ℕ} 0 1 → X
@@ -108,13 +109,12 @@ module _ (kind stream : ℕ) (payload rest : List ℕ) where
       rw (le-ltb (length whole) 9 a, length-back (omega arith), le-ltb max (length payload) hp, le-ltb (length whole - 9) (length payload) b, stream-back hs, k)
 
 -- the same for what a writer leaves in its buffer
-pub written-back : (max kind stream : ℕ) (payload d : List ℕ) → stream < 4294967296 → max < 4294967296 → length payload ≤ max → 9 + length payload ≤ length d
-    → decodeFrame max (encodeFrame max kind stream payload d .out)
-    ≡ F.Whole (record { header = record { kind = kind; stream = stream; length = length payload }; used = 9 + length payload })
+pub written-back : FrameReturns
 unfolding encodeFrame
 written-back max kind stream payload d hs hm hp hd =
+    let Z : List ℕ = replicate (length d - length (frameBytes kind stream payload)) 0 in
     rw (le-ltb max (length payload) hp, filled-fits d (frameBytes kind stream payload) (rw length-frameBytes hd))
-    (frame-back kind stream payload (replicate (length d - length (frameBytes kind stream payload)) 0) max hs hm hp)
+    (frame-back kind stream payload Z max hs hm hp, payload-back kind stream payload Z)
 
 -- ---- encoding what was decoded
 
@@ -128,8 +128,7 @@ header-back s n h =
     let a : part s 0 9 ≡ kindOf s ∷ part s 1 8 = part-cons s 0 9 (omega arith) (omega arith) in
     sym (part-add s 0 9 n ∙ ap (λ (x : List ℕ). x ++ part s 9 n) (a ∙ ap (λ (x : List ℕ). kindOf s ∷ x) (part-add s 1 4 4)))
 
-pub bytes-back : (max : ℕ) (s : List ℕ) (f : Frame) → Bytes s → decodeFrame max s ≡ F.Whole f
-    → frameBytes (f .header .kind) (f .header .stream) (part s 9 (f .header .length)) ≡ take (f .used) s
+pub bytes-back : FrameBytesReturn
 unfolding frameBytes streamOf lengthOf
 bytes-back max s f B e =
     let g = framing max s f e in

@@ -1,3 +1,4 @@
+pub mod FrameReturns
 pub mod Frames
 pub mod Worlds
 pub mod Reading
