@@ -1,4 +1,6 @@
 // For measuring only: the varint crate's functions under names that a Rust program can call.
+#![tactic(auto)]
+
 ghost use Rattle.std.specs.Prelude.{◌≡◌, length};
 ghost use Rattle.std.proofs.lemmas.List.Edits.{sets};
 ghost use Rattle.varint.specs.Stores.{part, clear_from};

@@ -8,7 +8,7 @@ use varint::error::Refusal;
 use varint::text::{ReadText, skim_str, take_name};
 
 // A type without parts, by its tag and a fact's predicate; or one with parts, by its tag and how many.
-#[derive(Drop)]
+#[derive(Clone, Copy)]
 pub enum Head {
     Leaf {
         tag: u64,
@@ -24,7 +24,7 @@ pub enum Head {
 }
 
 // A child's name lies in the bytes: `len` of them from `start` on. A record's field has discriminant 0.
-#[derive(Drop)]
+#[derive(Clone, Copy)]
 pub enum Label {
     Named {
         start: usize,

@@ -2,6 +2,8 @@
 //
 // A descriptor is read twice: once to see whether it is one and how much memory it takes, and once to store it. The first reading checks
 // its names, the second only finds them. Both are one function, which is lent two small buffers of its own the first time.
+#![tactic(auto)]
+
 mod head;
 pub mod node;
 pub mod write;
@@ -22,7 +24,7 @@ pub const MAX_DEPTH: u64 = 64;
 pub const MAX_PAYLOAD: u64 = 67_108_864;
 
 // The places past a descriptor: in the bytes, the text and the nodes.
-#[derive(Drop)]
+#[derive(Clone, Copy)]
 pub enum Walked {
     Read {
         next: usize,
@@ -32,7 +34,7 @@ pub enum Walked {
     Refused(Refusal),
 }
 
-#[derive(Drop)]
+#[derive(Clone, Copy)]
 pub enum DescAnswer {
     Accepted { used: usize },
     Refused(Refusal),

@@ -18,21 +18,21 @@ use varint::utf8::is_utf8;
 use varint::{Written, len_u64, put_u64};
 
 // The node after the last one written, and the place after the last byte; or the table is not laid out as one.
-#[derive(Drop)]
+#[derive(Clone, Copy)]
 pub enum Emitted {
     Done { next: usize, place: usize },
     Wrong,
 }
 
 // Whether names are in the text and are UTF-8.
-#[derive(Drop)]
+#[derive(Clone, Copy)]
 pub enum Names {
     Good,
     Refused(Refusal),
 }
 
 // A place of the text: where it starts, and how long it is.
-#[derive(Drop)]
+#[derive(Clone, Copy)]
 struct Span {
     start: u64,
     len: u64,

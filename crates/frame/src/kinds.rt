@@ -1,7 +1,7 @@
 // The kind bytes of frames (frame.rs, protocol.rs): which message a frame carries, and what asks for one.
 
 // A frame's kind byte. `G` means two things: what a client sends asks for a page, what a server sends opens a copy.
-#[derive(Drop)]
+#[derive(Clone, Copy)]
 pub struct FrameKind(pub u8);
 
 impl FrameKind {

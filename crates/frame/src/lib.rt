@@ -4,6 +4,8 @@
 //   kind u8 | stream u32 | length u32 | payload
 //
 // What a kind means is the layer above's to say: the receiver's kind table does.
+#![tactic(auto)]
+
 pub mod kinds;
 pub mod receiver;
 pub mod slot;
@@ -20,27 +22,27 @@ use varint::store::{clear_bytes, copy_bytes, store_byte};
 use varint::{ReadU64, Written};
 
 // A frame's header, decoded. `kinds::FrameKind` names the kinds.
-#[derive(Drop)]
+#[derive(Clone, Copy)]
 pub struct FrameHeader {
     pub kind: u8,
     pub stream: u32,
     pub length: u32,
 }
 
-#[derive(Drop)]
+#[derive(Clone, Copy)]
 pub enum HeaderAnswer {
     Header(FrameHeader),
     Refused(Refusal),
 }
 
 // A whole frame: its payload stands behind the header's bytes, up to the `used` bytes of frame in all.
-#[derive(Drop)]
+#[derive(Clone, Copy)]
 pub struct Frame {
     pub header: FrameHeader,
     pub used: usize,
 }
 
-#[derive(Drop)]
+#[derive(Clone, Copy)]
 pub enum FrameAnswer {
     Whole(Frame),
     Refused(Refusal),
@@ -55,7 +57,7 @@ impl Frame {
 }
 
 // A payload's length as its header has it.
-#[derive(Drop)]
+#[derive(Clone, Copy)]
 enum FrameLength {
     Fits(u32),
     TooLong,

@@ -15,7 +15,7 @@ use varint::store::{clear_bytes, copy_bytes};
 
 // What an offer advances. A stop is the refusal's number and details, and 0 while the receiver runs.
 #[repr(C)]
-#[derive(Drop)]
+#[derive(Clone, Copy)]
 pub struct Progress {
     pub header: [u8; Frame::HEADER_LEN],
     pub header_len: usize,
@@ -28,27 +28,27 @@ pub struct Progress {
 
 // Plain numbers, so that a host can lend it.
 #[repr(C)]
-#[derive(Drop)]
+#[derive(Clone, Copy)]
 pub struct Receiver {
     // The message that each kind byte names, 1 to 12; any other number: an opaque payload. No offer alters it.
     pub table: [u8; 256],
     pub progress: Progress,
 }
 
-#[derive(Drop)]
+#[derive(Clone, Copy)]
 pub enum Opening {
     Accepted,
     Refused(Refusal),
 }
 
 // The receiver just opened, or as it was before.
-#[derive(Drop)]
+#[derive(Clone, Copy)]
 pub struct Opened {
     pub receiver: Receiver,
     pub opening: Opening,
 }
 
-#[derive(Drop)]
+#[derive(Clone, Copy)]
 pub enum Outcome {
     // The piece is used up.
     More,
@@ -60,7 +60,7 @@ pub enum Outcome {
     Refused(Code),
 }
 
-#[derive(Drop)]
+#[derive(Clone, Copy)]
 pub struct Offered {
     pub receiver: Receiver,
     pub used: usize,
@@ -68,7 +68,7 @@ pub struct Offered {
 }
 
 // The same but for the kind table, which stays where it is.
-#[derive(Drop)]
+#[derive(Clone, Copy)]
 pub struct Stepped {
     pub progress: Progress,
     pub used: usize,
@@ -76,7 +76,7 @@ pub struct Stepped {
 }
 
 // What nine header bytes say: the run stops, or so much payload is to be gathered.
-#[derive(Drop)]
+#[derive(Clone, Copy)]
 enum Verdict {
     Refuse(Refusal),
     Gather(FrameHeader),

@@ -5,7 +5,7 @@ ghost use Rattle.frame.specs.Slots.{put_slot};
 use varint::error::{Fault, Refusal};
 use varint::store::copy_bytes;
 
-#[derive(Drop)]
+#[derive(Clone, Copy)]
 pub enum SlotAnswer {
     Shown,
     Refused(Refusal),

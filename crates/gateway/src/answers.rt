@@ -11,7 +11,7 @@ use varint::error::{Code, Refusal, code_of};
 use varint::{ReadU64, Written};
 
 // The parts of an answer; what a call does not give is 0.
-#[derive(Drop)]
+#[derive(Clone, Copy)]
 pub struct Parts {
     pub refusal: Code,
     pub used: u64,

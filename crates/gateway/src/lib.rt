@@ -1,5 +1,7 @@
 // The C entry points of the fjord session wire: the layers below, on numbers and slices. Each writes its whole answer, sixteen numbers, and returns 0
 // or the refusal's number.
+#![tactic(auto)]
+
 mod answers;
 mod frames;
 mod numbers;

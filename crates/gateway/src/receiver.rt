@@ -10,14 +10,14 @@ use crate::named;
 use frame::receiver::{Opening, Outcome, Progress, Receiver, entry_of, open, step};
 
 // The receiver after an opening, and the result.
-#[derive(Drop)]
+#[derive(Clone, Copy)]
 pub struct Stepped {
     pub receiver: Receiver,
     pub code: u64,
 }
 
 // What an offer alters of a receiver, and the result.
-#[derive(Drop)]
+#[derive(Clone, Copy)]
 pub struct Advanced {
     pub progress: Progress,
     pub code: u64,

@@ -1,6 +1,8 @@
 // Lists a run of frames: reads the kind table and then the run from standard input, and prints a line for each frame and one for the end. What the lines are
 // stands in `listing`; this program reads and writes. A read or a write that fails is told on standard error and ends it with no last line: the run is not
 // known to be over.
+#![tactic(auto)]
+
 ghost use Rattle.std.specs.Prelude.{◌+◌, ◌*◌, ◌≤◌, length};
 ghost use Rattle.io.specs.Counts.{IsPrefixLen};
 
@@ -19,7 +21,7 @@ const PAGE: usize = 307200;
 const LAST_LINE: usize = 29;
 
 // How a read went: so many bytes are there, none at the end of the input; or it failed, which was told.
-#[derive(Drop)]
+#[derive(Clone, Copy)]
 struct Read {
     count: usize,
     failed: bool,
@@ -126,7 +128,7 @@ fn print_last(last: Last) {
 }
 
 // The run so far: its receiver, how it ends if nothing follows, whether there may be more of it, and whether a read or a write failed.
-#[derive(Drop)]
+#[derive(Clone, Copy)]
 struct Run {
     receiver: Receiver,
     last: Last,

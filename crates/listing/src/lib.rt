@@ -1,5 +1,7 @@
 // The lines that the lister prints, as bytes in a lent buffer: of a frame, of a piece of a run, and of its end. A writer stores what lies inside the buffer and
 // answers how many bytes its text has.
+#![tactic(auto)]
+
 ghost use Rattle.std.specs.Prelude.{◌≡◌, [], ◌∷◌, ◌+◌, ◌*◌, ◌≤◌, min, length};
 ghost use Rattle.std.proofs.lemmas.List.Edits.{sets};
 ghost use Rattle.varint.specs.Outs.{declared};
@@ -17,7 +19,7 @@ use varint::error::code_of;
 use varint::store::{copy_bytes, store_byte};
 
 // How a run ends: the count of header and payload bytes that are held, or the number of the refusal that stopped it.
-#[derive(Drop)]
+#[derive(Clone, Copy)]
 pub enum Last {
     Held(u64),
     Stopped(u64),
@@ -93,7 +95,7 @@ pub fn put_last(out: &mut [u8], last: Last) -> usize
 }
 
 // A piece that was listed: the receiver after it, how many bytes its lines have, and how the run ends if no piece follows.
-#[derive(Drop)]
+#[derive(Clone, Copy)]
 pub struct Listed {
     pub receiver: Receiver,
     pub len: usize,

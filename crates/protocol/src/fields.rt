@@ -15,37 +15,37 @@ use varint::store::copy_bytes;
 use varint::text::{ReadText, get_str, skim_str, take_name};
 use varint::{ReadU64, get_u64};
 
-#[derive(Drop)]
+#[derive(Clone, Copy)]
 pub(crate) enum ReadByte {
     Byte { value: u8, next: usize },
     Refused(Refusal),
 }
 
-#[derive(Drop)]
+#[derive(Clone, Copy)]
 pub(crate) enum ReadMode {
     Mode { mode: Mode, next: usize },
     Refused(Refusal),
 }
 
-#[derive(Drop)]
+#[derive(Clone, Copy)]
 pub(crate) enum ReadCode {
     Code { code: ErrorCode, next: usize },
     Refused(Refusal),
 }
 
-#[derive(Drop)]
+#[derive(Clone, Copy)]
 pub(crate) enum ReadOp {
     Op { op: ControlOp, next: usize },
     Refused(Refusal),
 }
 
-#[derive(Drop)]
+#[derive(Clone, Copy)]
 pub(crate) enum ReadFlag {
     Flag { yes: bool, next: usize },
     Refused(Refusal),
 }
 
-#[derive(Drop)]
+#[derive(Clone, Copy)]
 pub(crate) enum ReadDigest {
     Digest { digest: Digest, next: usize },
     Refused(Refusal),

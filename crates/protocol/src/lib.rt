@@ -2,6 +2,8 @@
 //
 // A message is read twice: once to see whether it is one and how much memory it takes, and once to store it. Both are one function, which is
 // lent small buffers of its own the first time. UTF-8 is checked in the first reading only. A message that takes no memory is read once.
+#![tactic(auto)]
+
 mod fields;
 pub mod message;
 mod read;

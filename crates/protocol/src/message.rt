@@ -7,20 +7,20 @@ ghost use Rattle.protocol.specs.Startup.{spoken_version};
 use varint::error::Refusal;
 
 // How a session is opened.
-#[derive(Drop)]
+#[derive(Clone, Copy)]
 pub enum Mode {
     ReadOnly,
     ReadWrite,
 }
 
-#[derive(Drop)]
+#[derive(Clone, Copy)]
 pub enum MaybeMode {
     Known(Mode),
     Unknown,
 }
 
 // What a server says went wrong.
-#[derive(Drop)]
+#[derive(Clone, Copy)]
 pub enum ErrorCode {
     Protocol,
     UnknownDatabase,
@@ -35,41 +35,41 @@ pub enum ErrorCode {
     Busy,
 }
 
-#[derive(Drop)]
+#[derive(Clone, Copy)]
 pub enum MaybeErrorCode {
     Known(ErrorCode),
     Unknown,
 }
 
 // Which operation of a database's life a control message asks for.
-#[derive(Drop)]
+#[derive(Clone, Copy)]
 pub enum ControlOp {
     Create,
     Finish,
     Remove,
 }
 
-#[derive(Drop)]
+#[derive(Clone, Copy)]
 pub enum MaybeControlOp {
     Known(ControlOp),
     Unknown,
 }
 
 // `len` bytes of the lent text from place `start` on.
-#[derive(Drop)]
+#[derive(Clone, Copy)]
 pub struct Span {
     pub start: u64,
     pub len: u64,
 }
 
 // The digest of a listing that a fetch may carry.
-#[derive(Drop)]
+#[derive(Clone, Copy)]
 pub enum Digest {
     Absent,
     Present(u64),
 }
 
-#[derive(Drop)]
+#[derive(Clone, Copy)]
 pub enum ControlReply {
     Created {
         instance: Span,
@@ -84,7 +84,7 @@ pub enum ControlReply {
 }
 
 // A message of rows has their count; an opaque payload is one text.
-#[derive(Drop)]
+#[derive(Clone, Copy)]
 pub enum Message {
     Startup {
         version: u32,
@@ -141,7 +141,7 @@ pub enum Message {
 }
 
 // What the rows of a message are.
-#[derive(Drop)]
+#[derive(Clone, Copy)]
 pub enum RowKind {
     Claim,
     Id,
@@ -150,7 +150,7 @@ pub enum RowKind {
     Pair,
 }
 
-#[derive(Drop)]
+#[derive(Clone, Copy)]
 pub enum Answer {
     Accepted(Message),
     Refused(Refusal),

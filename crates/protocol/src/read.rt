@@ -40,7 +40,7 @@ use varint::utf8::is_utf8;
 use varint::{ReadU64, get_u64};
 
 // A message, and how many bytes of text and numbers of rows and of nodes it takes.
-#[derive(Drop)]
+#[derive(Clone, Copy)]
 pub(crate) enum Found {
     Read {
         message: Message,

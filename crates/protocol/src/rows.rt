@@ -23,7 +23,7 @@ use varint::text::ReadText;
 use varint::{ReadU64, get_u64};
 
 // The places past a row without nodes: in the bytes and in the text.
-#[derive(Drop)]
+#[derive(Clone, Copy)]
 pub(crate) enum Flat {
     Read { next: usize, text: usize },
     Refused(Refusal),

@@ -20,7 +20,7 @@ use varint::error::{Fault, Refusal};
 use varint::utf8::is_utf8;
 
 // The node after those of a type; or they are not laid out as nodes are.
-#[derive(Drop)]
+#[derive(Clone, Copy)]
 pub enum Laid {
     Next(usize),
     Wrong,

@@ -1,4 +1,6 @@
 // Encoding the session messages of fjord (protocol.rs): a message and the lent memory that it points into, back to a frame's payload.
+#![tactic(auto)]
+
 pub mod checks;
 mod write;
 

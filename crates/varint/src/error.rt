@@ -5,7 +5,7 @@ ghost use Rattle.varint.specs.Refusals.{code_of, mismatch_number, buffer_number,
 use crate::wide;
 
 // What a byte of a known place should have been.
-#[derive(Drop)]
+#[derive(Clone, Copy)]
 pub enum Mismatch {
     Mode,
     Version,
@@ -17,7 +17,7 @@ pub enum Mismatch {
 }
 
 // The lent buffers that can be too small.
-#[derive(Drop)]
+#[derive(Clone, Copy)]
 pub enum Buffer {
     Text,
     Rows,
@@ -28,7 +28,7 @@ pub enum Buffer {
 
 // What an encoder finds wrong in a message: a text past the text's end, too few rows, nodes that are not laid out as a
 // message's, a number that no such message has.
-#[derive(Drop)]
+#[derive(Clone, Copy)]
 pub enum Fault {
     Texts,
     RowCount,
@@ -36,7 +36,7 @@ pub enum Fault {
     Number,
 }
 
-#[derive(Drop)]
+#[derive(Clone, Copy)]
 pub enum Refusal {
     UnexpectedEof,
     VarintOverflow,
@@ -60,7 +60,7 @@ pub enum Refusal {
 }
 
 // A refusal as its number and two details.
-#[derive(Drop)]
+#[derive(Clone, Copy)]
 pub struct Code {
     pub number: u64,
     pub a: u64,

@@ -2,6 +2,8 @@
 //
 // A reader takes a slice and a place in it; a place at or past the end reads as no bytes left. It answers the value with the place after it,
 // or the refusal. A writer at a place stores what lies inside the buffer and nothing past its end.
+#![tactic(auto)]
+
 pub mod error;
 pub mod fixed;
 pub mod run;
@@ -25,18 +27,18 @@ pub const MAX_LEN: usize = 10;
 // The greatest number of 32 bits.
 pub const MAX_U32: u64 = 0xFFFF_FFFF;
 
-#[derive(Drop)]
+#[derive(Clone, Copy)]
 pub enum ReadU64 {
     Value { value: u64, next: usize },
     Refused(Refusal),
 }
 
 // What was read of a `ReadU64`: the number, and the place after it.
-#[derive(Drop)]
+#[derive(Clone, Copy)]
 pub struct Number(pub u64, pub usize);
 
 // What a writer of a whole buffer answers.
-#[derive(Drop)]
+#[derive(Clone, Copy)]
 pub enum Written {
     Wrote { len: usize },
     Refused(Refusal),

@@ -9,7 +9,7 @@ use crate::store::store_number;
 use crate::{ReadU64, get_u64, wide};
 
 // The place after a run, or why it is refused.
-#[derive(Drop)]
+#[derive(Clone, Copy)]
 pub enum Run {
     Next(usize),
     Refused(Refusal),

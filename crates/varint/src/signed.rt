@@ -9,7 +9,7 @@ ghost use Rattle.varint.specs.Zigzag.{zig, unzig, get_i64};
 use crate::error::Refusal;
 use crate::{ReadU64, Written};
 
-#[derive(Drop)]
+#[derive(Clone, Copy)]
 pub enum ReadI64 {
     Value { value: i64, next: usize },
     Refused(Refusal),

@@ -8,7 +8,7 @@ use crate::error::Refusal;
 use crate::utf8::is_utf8;
 
 // A text lies in the bytes that were read: `len` of them from `start` on. What follows it is at `next`.
-#[derive(Drop)]
+#[derive(Clone, Copy)]
 pub enum ReadText {
     Text {
         start: usize,

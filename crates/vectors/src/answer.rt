@@ -3,13 +3,13 @@ use crate::parts::front;
 
 // A text at the start of a buffer that is lent at each step. What does not fit is left out: the buffer is longer than any
 // line, so that an answer which was cut differs from every recorded one.
-#[derive(Drop)]
+#[derive(Clone, Copy)]
 pub struct Writer {
     pub len: usize,
 }
 
 // What became of a request.
-#[derive(Drop)]
+#[derive(Clone, Copy)]
 pub enum Outcome {
     Answered(Writer),
     Unknown,

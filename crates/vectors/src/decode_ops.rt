@@ -11,7 +11,7 @@ use desc::DescAnswer;
 use protocol::message::Answer;
 
 // What a payload is decoded as: a descriptor alone, or the message of an entry.
-#[derive(Drop)]
+#[derive(Clone, Copy)]
 enum Form {
     Desc,
     Entry(u8),

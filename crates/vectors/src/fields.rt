@@ -5,7 +5,7 @@ use protocol::message::{
     Mode, Span,
 };
 
-#[derive(Drop)]
+#[derive(Clone, Copy)]
 pub enum MaybeMessage {
     Known(Message),
     Unknown,

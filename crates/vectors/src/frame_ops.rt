@@ -17,14 +17,14 @@ use protocol::message::Answer;
 use varint::error::{Code, code_of};
 
 // What is told of a call: a word, and the first so many of the numbers.
-#[derive(Drop)]
+#[derive(Clone, Copy)]
 struct Told {
     word: Word,
     count: usize,
     numbers: [u64; 7],
 }
 
-#[derive(Drop)]
+#[derive(Clone, Copy)]
 enum Word {
     Accepted,
     Frame,
@@ -173,7 +173,7 @@ fn perform_reader(is_header: bool, request: &[u8], bytes: &mut [u8], answer: &mu
 }
 
 // A receiver, and the place behind it.
-#[derive(Drop)]
+#[derive(Clone, Copy)]
 struct Taken {
     receiver: Receiver,
     next: Cursor,
@@ -289,7 +289,7 @@ fn show_offered(w: Writer, o: Offered, answer: &mut [u8]) -> Writer {
 }
 
 // Offers so far: the receiver, the place of the next piece in the request, and the answer's text.
-#[derive(Drop)]
+#[derive(Clone, Copy)]
 struct Run {
     receiver: Receiver,
     next: Cursor,

@@ -2,7 +2,7 @@
 use crate::parts::front;
 
 // A file that is read in chunks: the bytes of the chunk from `at` up to `end` are still to come.
-#[derive(Drop)]
+#[derive(Clone, Copy)]
 pub struct Source {
     fd: i32,
     at: usize,
@@ -11,7 +11,7 @@ pub struct Source {
 
 // A line, without its line end, at the start of a buffer; of a line that does not fit the buffer has the start.
 // It is open until its end is read, and not found where the file has no more bytes.
-#[derive(Drop)]
+#[derive(Clone, Copy)]
 pub struct Line {
     pub source: Source,
     pub len: usize,

@@ -13,7 +13,7 @@ use varint::error::code_of;
 const LAST_LINE: usize = 29;
 
 // A run so far: its receiver, how many bytes of it were offered, its lines, and how it ends if nothing follows.
-#[derive(Drop)]
+#[derive(Clone, Copy)]
 struct Run {
     receiver: Receiver,
     at: usize,

@@ -2,6 +2,8 @@
 //
 // A data file has a request to a line, `REQUEST = ANSWER`; blank lines and lines that start with `#` are skipped. A line whose
 // answer differs is printed with the answer that came, and at the end each file has a line with its counts.
+#![tactic(auto)]
+
 mod answer;
 mod decode_ops;
 mod encode_ops;
@@ -25,7 +27,7 @@ fn line_buffer() -> [u8; 16384] {
 }
 
 // Where replaying a file stands.
-#[derive(Drop)]
+#[derive(Clone, Copy)]
 struct Progress {
     source: Source,
     tally: Tally,

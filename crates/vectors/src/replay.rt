@@ -6,7 +6,7 @@ use check::same;
 use libc::STDOUT_FILENO;
 
 // How many requests were replayed, and how many of them differ.
-#[derive(Drop)]
+#[derive(Clone, Copy)]
 pub struct Tally {
     pub lines: u64,
     pub differ: u64,

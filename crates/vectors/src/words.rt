@@ -5,32 +5,32 @@ use crate::parts::{after, front, front_mut};
 use check::same;
 
 // A place in a request. It is good as long as each word before it had the form that was asked for.
-#[derive(Drop)]
+#[derive(Clone, Copy)]
 pub struct Cursor {
     pub at: usize,
     pub good: bool,
 }
 
-#[derive(Drop)]
+#[derive(Clone, Copy)]
 pub struct Number {
     pub value: u64,
     pub next: Cursor,
 }
 
-#[derive(Drop)]
+#[derive(Clone, Copy)]
 pub struct Signed {
     pub value: i64,
     pub next: Cursor,
 }
 
 // Bytes, or numbers, at the start of a buffer.
-#[derive(Drop)]
+#[derive(Clone, Copy)]
 pub struct Bytes {
     pub len: usize,
     pub next: Cursor,
 }
 
-#[derive(Drop)]
+#[derive(Clone, Copy)]
 struct Word {
     start: usize,
     end: usize,
@@ -38,14 +38,14 @@ struct Word {
 }
 
 // A number, digit by digit.
-#[derive(Drop)]
+#[derive(Clone, Copy)]
 struct Digits {
     value: u64,
     good: bool,
 }
 
 // Bytes, digit pair by digit pair.
-#[derive(Drop)]
+#[derive(Clone, Copy)]
 struct Pairs {
     len: usize,
     good: bool,
