@@ -53,6 +53,7 @@ all_six true true true true true false h = clash h refl
 -- the discriminant of a part
 pub label_under : {tag d : ℕ} {name : NameSpan} → BranchOk tag → Under tag name d → LabelOk tag d
 label_under b (below l) = l
+label_under b root = elim b [ ]
 
 -- the name of node n
 abbrev pub name_at : List ℕ → ℕ → NameSpan

@@ -41,7 +41,7 @@ module _ (check : Bool) (limit : ℕ) (s : List ℕ) where
             then_got (P depth q) (Q depth tag (suc n) p) (desc check limit depth s q) _ (h q)
             (λ t e a.
             then_got (Q depth tag n e) (Q depth tag (suc n) p) (children (desc check limit depth s) check s tag n e) _ (o e)
-            (λ ks f b. c.on-more depth tag n p start len d q t e ks f i a b))
+            (λ ks f b. c.on_more depth tag n p start len d q t e ks f i a b))
 
     -- so P holds of whatever is read
     pub desc_as : (depth at : ℕ) → GotAs (P depth at) (desc check limit depth s at)
@@ -52,7 +52,7 @@ module _ (check : Bool) (limit : ℕ) (s : List ℕ) where
         go : ((p : ℕ) → GotAs (P depth p) (desc check limit depth s p)) → (x : Head) → head_at s at ≡ x
             → GotAs (P (suc depth) at) (desc_on (desc check limit depth s) check s x)
         go h (NoHead e) i = tt
-        go h (Leaf tag p next) i = c.on-leaf depth at tag p next i
+        go h (Leaf tag p next) i = c.on_leaf depth at tag p next i
         go h (Branch tag n next) i =
             then_got (Q depth tag n next) (P (suc depth) at) (children (desc check limit depth s) check s tag n next) _ (children_as depth tag h n next)
             (λ ks e a. c.on_branch depth at tag n next ks e i a)

@@ -1,6 +1,6 @@
 -- What is printed is read back: a descriptor that was written is read as the tree that was written, wherever it stands.
 use mathlib.Core.Bool.{true}
-use mathlib.Core.Path.{◌≡◌, refl, ◌∙◌, ap}
+use mathlib.Core.Path.{◌≡◌, refl, ◌∙◌, ap, subst}
 use mathlib.Core.List.{List, [], ◌++◌, append_assoc, append-nil}
 use Prim.Native.Nat.{ℕ, zero, suc, ◌+◌, ◌-◌, ◌^◌, ◌≤◌, ◌<◌}
 use native.Mathlib.Nat.{add_assoc}
@@ -141,8 +141,11 @@ mutual
       let w =
       in_a_row (labelled tag) (λ c s q. then (desc true limit depth s q) (λ u e. then (others s e) (λ l g. got (more c.0 c.1 u l) g)))
       (print_label tag x d) (print t ++ print_kids tag ks) (x, d) (more x d t ks) (label_back x f.0 f.1) m before rest in
-      rw (← append_assoc (print_text x) (pick (eqb tag 4) (put_u64 d) []) (print t ++ print_kids tag ks))
-      (children_more (desc true limit depth _) _ tag (kid_count ks) (length before) ∙ w)
+      let e : print_label tag x d ++ (print t ++ print_kids tag ks) ≡ print_kids tag (more x d t ks) =
+      append_assoc (print_text x) (pick (eqb tag 4) (put_u64 d) []) (print t ++ print_kids tag ks) in
+      subst
+      (λ (P : List ℕ). children (desc true limit depth (before ++ (P ++ rest))) true (before ++ (P ++ rest)) tag (suc (kid_count ks)) (length before) ≡ got (more x d t ks) (length before + length P))
+      e (children_more (desc true limit depth _) _ tag (kid_count ks) (length before) ∙ w)
 
 -- reading what was printed gives the tree back
 pub read_print : (limit depth : ℕ) (tr : Tree (List ℕ)) → Fine TextOk depth tr → (before rest : List ℕ)

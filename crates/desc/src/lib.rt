@@ -163,7 +163,7 @@ pub fn fill_desc(
     nodes: &mut [u64],
     n: usize,
 ) -> Walked
-    ensures { (result ≡ measured (desc false limit limit s.now at)) × (record { text = text.exit.now; nodes = nodes.new } ≡ fill_desc limit s.now at text.entry.now t nodes.old n) }
+    ensures { (result ≡ measured (desc false limit limit s.now at)) × (record { text = text.new; nodes = nodes.new } ≡ fill_desc limit s.now at text.old t nodes.old n) }
 {
     match measure_by(s, at, limit, false) {
         Walked::Read {

@@ -104,7 +104,7 @@ pub fn plus(a: usize, b: usize) -> usize
 
 // Stores the varint of `v` from place `at` on, as far as `out` goes, and returns the place after it.
 pub fn put_number(out: &mut [u8], at: usize, v: u64) -> usize
-    ensures { record { out = out.exit.now; place = result } ≡ put_number v (record { out = out.entry.now; place = at }) }
+    ensures { record { out = out.new; place = result } ≡ put_number v (record { out = out.old; place = at }) }
 {
     let n = put_u64(out, at, v);
     plus(at, n)
@@ -112,7 +112,7 @@ pub fn put_number(out: &mut [u8], at: usize, v: u64) -> usize
 
 // The same where it is wanted; else nothing is stored.
 fn put_where(out: &mut [u8], at: usize, wanted: bool, v: u64) -> usize
-    ensures { record { out = out.exit.now; place = result } ≡ put_where wanted v (record { out = out.entry.now; place = at }) }
+    ensures { record { out = out.new; place = result } ≡ put_where wanted v (record { out = out.old; place = at }) }
 {
     if wanted {
         return put_number(out, at, v);
@@ -122,7 +122,7 @@ fn put_where(out: &mut [u8], at: usize, wanted: bool, v: u64) -> usize
 
 // Stores `len` bytes of the text, as far as they are there, and moves on by `len`.
 pub fn put_name(text: &[u8], start: usize, len: usize, out: &mut [u8], at: usize) -> usize
-    ensures { record { out = out.exit.now; place = result } ≡ put_name text.now (start, len) (record { out = out.entry.now; place = at }) }
+    ensures { record { out = out.new; place = result } ≡ put_name text.now (start, len) (record { out = out.old; place = at }) }
 {
     copy_bytes(text, start, len, out, at);
     plus(at, len)
@@ -131,7 +131,7 @@ pub fn put_name(text: &[u8], start: usize, len: usize, out: &mut [u8], at: usize
 // What stands before node `m`, which is there, a child of a type with this tag.
 fn put_label(text: &[u8], nodes: &[u64], m: usize, tag: u64, out: &mut [u8], at: usize) -> usize
     requires { m < length nodes.now / width }
-    ensures { record { out = out.exit.now; place = result } ≡ put_label text.now tag (cell nodes.now m start_at, cell nodes.now m len_at) (cell nodes.now m discriminant_at) (record { out = out.entry.now; place = at }) }
+    ensures { record { out = out.new; place = result } ≡ put_label text.now tag (cell nodes.now m start_at, cell nodes.now m len_at) (cell nodes.now m discriminant_at) (record { out = out.old; place = at }) }
 {
     let k = m * node::WIDTH;
     let start = nodes[k + node::START];
@@ -144,7 +144,7 @@ fn put_label(text: &[u8], nodes: &[u64], m: usize, tag: u64, out: &mut [u8], at:
 
 // Two numbers, the second only where it is asked for.
 fn put_two(out: &mut [u8], at: usize, v: u64, wanted: bool, w: u64) -> usize
-    ensures { record { out = out.exit.now; place = result } ≡ put_where wanted w (put_number v (record { out = out.entry.now; place = at })) }
+    ensures { record { out = out.new; place = result } ≡ put_where wanted w (put_number v (record { out = out.old; place = at })) }
 {
     let past = put_number(out, at, v);
     put_where(out, past, wanted, w)
@@ -171,7 +171,7 @@ fn emit(
     out: &mut [u8],
     at: usize,
 ) -> Emitted
-    ensures { told result out.exit.now ≡ emission text.now (table depth nodes.now n parent) (record { out = out.entry.now; place = at }) }
+    ensures { told result out.new ≡ emission text.now (table depth nodes.now n parent) (record { out = out.old; place = at }) }
 {
     if depth == 0 {
         return Emitted::Wrong;
@@ -296,7 +296,7 @@ pub fn put_desc(
     out: &mut [u8],
     at: usize,
 ) -> Emitted
-    ensures { record { answer = result; out = out.exit.now } ≡ put_desc text.now (table limit nodes.now n 0) (record { out = out.entry.now; place = at }) }
+    ensures { record { answer = result; out = out.new } ≡ put_desc text.now (table limit nodes.now n 0) (record { out = out.old; place = at }) }
 {
     match size_desc(nodes, n, limit) {
         Emitted::Wrong => Emitted::Wrong,

@@ -233,7 +233,7 @@ fn hand_out(
     nodes: &mut [u64],
 ) -> Stepped
     requires { header.length ≤ length hold.old }
-    ensures { offer_at table.now result hold.new text.exit.now rows.new nodes.new ≡ handed (world_of (receiver_at table.now progress) hold.old text.entry.now rows.old nodes.old) header used (decoded_kind editor (setup_of (receiver_at table.now progress)) header.kind (take header.length hold.old) (record { text = text.entry.now; rows = rows.old; nodes = nodes.old })) }
+    ensures { offer_at table.now result hold.new text.new rows.new nodes.new ≡ handed (world_of (receiver_at table.now progress) hold.old text.old rows.old nodes.old) header used (decoded_kind editor (setup_of (receiver_at table.now progress)) header.kind (take header.length hold.old) (record { text = text.old; rows = rows.old; nodes = nodes.old })) }
 {
     let entry = entry_of(table, header.kind);
     let answer = decode(entry, &hold[..header.length as usize], text, rows, nodes);

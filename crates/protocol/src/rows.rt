@@ -160,7 +160,7 @@ fn find_desc(
     n: usize,
 ) -> Walked
     requires { t + n ≤ at }
-    ensures { (result ≡ measured (desc check limit limit s.now at)) × (record { text = text.exit.now; nodes = nodes.new } ≡ desc_left check (desc check limit limit s.now at) text.entry.now t nodes.old n) }
+    ensures { (result ≡ measured (desc check limit limit s.now at)) × (record { text = text.new; nodes = nodes.new } ≡ desc_left check (desc check limit limit s.now at) text.old t nodes.old n) }
 {
     if check {
         return measure_desc(s, at, limit);
@@ -235,7 +235,7 @@ fn read_sides(
     n: usize,
 ) -> Walked
     requires { (t + n ≤ at) × (at ≤ length s.now) }
-    ensures { told_row (r + 3) result text.exit.now rows.new nodes.new ≡ load check lay_sides ((sides check limit).read s.now at) (record { text = text.entry.now; t = t; rows = rows.old; r = r; nodes = nodes.old; n = n }) }
+    ensures { told_row (r + 3) result text.new rows.new nodes.new ≡ load check lay_sides ((sides check limit).read s.now at) (record { text = text.old; t = t; rows = rows.old; r = r; nodes = nodes.old; n = n }) }
 {
     match read_wide_flag(s, at) {
         ReadFlag::Refused(e) => Walked::Refused(e),
@@ -274,7 +274,7 @@ fn read_type(
     n: usize,
 ) -> Walked
     requires { (t + n ≤ at) × (at ≤ length s.now) × (r ≤ 2 * at) }
-    ensures { told_row (r + type_width) result text.exit.now rows.new nodes.new ≡ load check lay_predicate ((predicate check limit).read s.now at) (record { text = text.entry.now; t = t; rows = rows.old; r = r; nodes = nodes.old; n = n }) }
+    ensures { told_row (r + type_width) result text.new rows.new nodes.new ≡ load check lay_predicate ((predicate check limit).read s.now at) (record { text = text.old; t = t; rows = rows.old; r = r; nodes = nodes.old; n = n }) }
 {
     match get_u64(s, at) {
         ReadU64::Refused(e) => Walked::Refused(e),
@@ -375,7 +375,7 @@ fn read_row(
     n: usize,
 ) -> Walked
     requires { (t + n ≤ at) × (at ≤ length s.now) × (r ≤ 2 * at) }
-    ensures { told_row (r + width_of kind) result text.exit.now rows.new nodes.new ≡ load_row kind check limit s.now at (record { text = text.entry.now; t = t; rows = rows.old; r = r; nodes = nodes.old; n = n }) }
+    ensures { told_row (r + width_of kind) result text.new rows.new nodes.new ≡ load_row kind check limit s.now at (record { text = text.old; t = t; rows = rows.old; r = r; nodes = nodes.old; n = n }) }
 {
     match kind {
         RowKind::Claim => with_nodes(read_claim(s, at, check, text, t, rows, r), n),

@@ -90,7 +90,7 @@ module _ (max limit : ℕ) (s : List ℕ) (message : Message) (tx rs nd : List �
   sent_again =
       let l = taken.laid in
       let r = read_whole max limit h.entry s taken.said taken.next h.canonical taken.read in
-      laid_encoded max limit taken.said (read_sound limit r h.bytes) tx rs nd l.text-rest l.rows-rest l.nodes-rest out message l.fields l.text
+      laid_encoded max limit taken.said (read_sound limit r h.bytes) tx rs nd l.text_rest l.rows_rest l.nodes_rest out message l.fields l.text
       l.rows l.nodes
       ∙ ap (λ (x : List ℕ). send max x out) (print_as r h.bytes)
 

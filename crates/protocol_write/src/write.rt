@@ -15,14 +15,14 @@ use varint::fixed::{put_u32_le, put_u64_le};
 use varint::store::store_byte;
 
 fn write_byte(out: &mut [u8], at: usize, b: u8) -> usize
-    ensures { record { out = out.exit.now; place = result } ≡ put_byte b (record { out = out.entry.now; place = at }) }
+    ensures { record { out = out.new; place = result } ≡ put_byte b (record { out = out.old; place = at }) }
 {
     store_byte(out, at, b);
     plus(at, 1)
 }
 
 fn write_flag(out: &mut [u8], at: usize, yes: bool) -> usize
-    ensures { record { out = out.exit.now; place = result } ≡ put_flag yes (record { out = out.entry.now; place = at }) }
+    ensures { record { out = out.new; place = result } ≡ put_flag yes (record { out = out.old; place = at }) }
 {
     if yes {
         return write_byte(out, at, 1);
@@ -32,34 +32,34 @@ fn write_flag(out: &mut [u8], at: usize, yes: bool) -> usize
 
 // The 4 low bytes: a greater length is that of a message that is too long to be written.
 fn write_fixed4(out: &mut [u8], at: usize, v: u64) -> usize
-    ensures { record { out = out.exit.now; place = result } ≡ put_fixed 4 v (record { out = out.entry.now; place = at }) }
+    ensures { record { out = out.new; place = result } ≡ put_fixed 4 v (record { out = out.old; place = at }) }
 {
     put_u32_le(out, at, (v % 0x1_0000_0000) as u32);
     plus(at, 4)
 }
 
 fn write_fixed8(out: &mut [u8], at: usize, v: u64) -> usize
-    ensures { record { out = out.exit.now; place = result } ≡ put_fixed 8 v (record { out = out.entry.now; place = at }) }
+    ensures { record { out = out.new; place = result } ≡ put_fixed 8 v (record { out = out.old; place = at }) }
 {
     put_u64_le(out, at, v);
     plus(at, 8)
 }
 
 fn write_two(v: u64, w: u64, out: &mut [u8], at: usize) -> usize
-    ensures { record { out = out.exit.now; place = result } ≡ put_two v w (record { out = out.entry.now; place = at }) }
+    ensures { record { out = out.new; place = result } ≡ put_two v w (record { out = out.old; place = at }) }
 {
     let past = put_number(out, at, v);
     put_number(out, past, w)
 }
 
 fn write_raw(text: &[u8], span: Span, out: &mut [u8], at: usize) -> usize
-    ensures { record { out = out.exit.now; place = result } ≡ put_name text.now (span.start, span.len) (record { out = out.entry.now; place = at }) }
+    ensures { record { out = out.new; place = result } ≡ put_name text.now (span.start, span.len) (record { out = out.old; place = at }) }
 {
     put_name(text, span.start as usize, span.len as usize, out, at)
 }
 
 fn write_text(text: &[u8], start: u64, len: u64, out: &mut [u8], at: usize) -> usize
-    ensures { record { out = out.exit.now; place = result } ≡ put_text text.now start len (record { out = out.entry.now; place = at }) }
+    ensures { record { out = out.new; place = result } ≡ put_text text.now start len (record { out = out.old; place = at }) }
 {
     let named = put_number(out, at, len);
     put_name(text, start as usize, len as usize, out, named)
@@ -67,7 +67,7 @@ fn write_text(text: &[u8], start: u64, len: u64, out: &mut [u8], at: usize) -> u
 
 // The descriptor whose root is node `n`.
 fn write_desc(text: &[u8], nodes: &[u64], n: usize, limit: u64, out: &mut [u8], at: usize) -> usize
-    ensures { record { out = out.exit.now; place = result } ≡ put_at text.now (table limit nodes.now n 0) (record { out = out.entry.now; place = at }) }
+    ensures { record { out = out.new; place = result } ≡ put_at text.now (table limit nodes.now n 0) (record { out = out.old; place = at }) }
 {
     match put_desc(text, nodes, n, limit, out, at) {
         Emitted::Done { next: _, place } => place,
@@ -77,7 +77,7 @@ fn write_desc(text: &[u8], nodes: &[u64], n: usize, limit: u64, out: &mut [u8], 
 
 // The id's two halves. Not by `write_two`, which has other callers and so is not inlined into the loop over the rows.
 fn write_pair(id: u64, out: &mut [u8], at: usize) -> usize
-    ensures { record { out = out.exit.now; place = result } ≡ put_pair id (record { out = out.entry.now; place = at }) }
+    ensures { record { out = out.new; place = result } ≡ put_pair id (record { out = out.old; place = at }) }
 {
     let past = put_number(out, at, id / 0x100_0000_0000);
     put_number(out, past, id % 0x100_0000_0000)
@@ -93,7 +93,7 @@ fn write_value(
     out: &mut [u8],
     at: usize,
 ) -> usize
-    ensures { record { out = out.exit.now; place = result } ≡ put_value limit text.now nodes.now has key (record { out = out.entry.now; place = at }) }
+    ensures { record { out = out.new; place = result } ≡ put_value limit text.now nodes.now has key (record { out = out.old; place = at }) }
 {
     let past = write_flag(out, at, has != 0);
     if has == 0 {
@@ -112,7 +112,7 @@ fn write_type(
     out: &mut [u8],
     at: usize,
 ) -> usize
-    ensures { record { out = out.exit.now; place = result } ≡ put_type limit text.now rows.now nodes.now r (record { out = out.entry.now; place = at }) }
+    ensures { record { out = out.new; place = result } ≡ put_type limit text.now rows.now nodes.now r (record { out = out.old; place = at }) }
 {
     let id = number_at(rows, r, 0);
     let start = number_at(rows, r, 1);
@@ -129,7 +129,7 @@ fn write_type(
 
 // The text of the claim or the step whose row starts at number `r`, and the number after it.
 fn write_labelled(text: &[u8], rows: &[u64], r: usize, out: &mut [u8], at: usize) -> usize
-    ensures { record { out = out.exit.now; place = result } ≡ put_labelled text.now rows.now r (record { out = out.entry.now; place = at }) }
+    ensures { record { out = out.new; place = result } ≡ put_labelled text.now rows.now r (record { out = out.old; place = at }) }
 {
     let start = number_at(rows, r, 0);
     let len = number_at(rows, r, 1);
@@ -139,7 +139,7 @@ fn write_labelled(text: &[u8], rows: &[u64], r: usize, out: &mut [u8], at: usize
 }
 
 fn write_step(text: &[u8], rows: &[u64], r: usize, out: &mut [u8], at: usize) -> usize
-    ensures { record { out = out.exit.now; place = result } ≡ put_step text.now rows.now r (record { out = out.entry.now; place = at }) }
+    ensures { record { out = out.new; place = result } ≡ put_step text.now rows.now r (record { out = out.old; place = at }) }
 {
     let scan = number_at(rows, r, 3);
     let past = write_labelled(text, rows, r, out, at);
@@ -157,7 +157,7 @@ fn write_row(
     out: &mut [u8],
     at: usize,
 ) -> usize
-    ensures { record { out = out.exit.now; place = result } ≡ put_row kind limit text.now rows.now nodes.now r (record { out = out.entry.now; place = at }) }
+    ensures { record { out = out.new; place = result } ≡ put_row kind limit text.now rows.now nodes.now r (record { out = out.old; place = at }) }
 {
     match kind {
         RowKind::Claim => write_labelled(text, rows, r, out, at),
@@ -179,7 +179,7 @@ fn write_rows(
     at: usize,
 ) -> usize
     requires { count * width_of kind ≤ length rows.now }
-    ensures { record { out = out.exit.now; place = result } ≡ put_rows kind limit text.now rows.now nodes.now count 0 (record { out = out.entry.now; place = at }) }
+    ensures { record { out = out.new; place = result } ≡ put_rows kind limit text.now rows.now nodes.now count 0 (record { out = out.old; place = at }) }
 {
     let width = kind.width();
     let mut left = count;
@@ -204,7 +204,7 @@ fn write_counted(
     out: &mut [u8],
     at: usize,
 ) -> usize
-    ensures { record { out = out.exit.now; place = result } ≡ put_counted kind limit text.now rows.now nodes.now count (record { out = out.entry.now; place = at }) }
+    ensures { record { out = out.new; place = result } ≡ put_counted kind limit text.now rows.now nodes.now count (record { out = out.old; place = at }) }
 {
     if few_rows(kind, rows, count) {
         return at;
@@ -215,7 +215,7 @@ fn write_counted(
 
 // A byte and a text.
 fn write_tagged(b: u8, span: Span, text: &[u8], out: &mut [u8], at: usize) -> usize
-    ensures { record { out = out.exit.now; place = result } ≡ put_tagged b span text.now (record { out = out.entry.now; place = at }) }
+    ensures { record { out = out.new; place = result } ≡ put_tagged b span text.now (record { out = out.old; place = at }) }
 {
     let past = write_byte(out, at, b);
     write_text(text, span.start, span.len, out, past)
@@ -231,7 +231,7 @@ fn write_startup(
     out: &mut [u8],
     at: usize,
 ) -> usize
-    ensures { record { out = out.exit.now; place = result } ≡ put_startup version database mode fingerprint text.now (record { out = out.entry.now; place = at }) }
+    ensures { record { out = out.new; place = result } ≡ put_startup version database mode fingerprint text.now (record { out = out.old; place = at }) }
 {
     let a = put_number(out, at, version as u64);
     let b = write_text(text, database.start, database.len, out, a);
@@ -248,7 +248,7 @@ fn write_control(
     out: &mut [u8],
     at: usize,
 ) -> usize
-    ensures { record { out = out.exit.now; place = result } ≡ put_control op database allow schema text.now (record { out = out.entry.now; place = at }) }
+    ensures { record { out = out.new; place = result } ≡ put_control op database allow schema text.now (record { out = out.old; place = at }) }
 {
     let a = write_tagged(op, database, text, out, at);
     let b = write_flag(out, a, allow);
@@ -263,7 +263,7 @@ fn write_finished(
     out: &mut [u8],
     at: usize,
 ) -> usize
-    ensures { record { out = out.exit.now; place = result } ≡ put_finished fingerprint facts bytes complete (record { out = out.entry.now; place = at }) }
+    ensures { record { out = out.new; place = result } ≡ put_finished fingerprint facts bytes complete (record { out = out.old; place = at }) }
 {
     let a = write_byte(out, at, ControlOp::Finish.as_byte());
     let b = write_two(fingerprint, facts, out, a);
@@ -272,7 +272,7 @@ fn write_finished(
 }
 
 fn write_reply(reply: ControlReply, text: &[u8], out: &mut [u8], at: usize) -> usize
-    ensures { record { out = out.exit.now; place = result } ≡ put_reply reply text.now (record { out = out.entry.now; place = at }) }
+    ensures { record { out = out.new; place = result } ≡ put_reply reply text.now (record { out = out.old; place = at }) }
 {
     match reply {
         ControlReply::Created { instance } => {
@@ -289,7 +289,7 @@ fn write_reply(reply: ControlReply, text: &[u8], out: &mut [u8], at: usize) -> u
 }
 
 fn write_page(most: u64, cursor: Span, query: Span, text: &[u8], out: &mut [u8], at: usize) -> usize
-    ensures { record { out = out.exit.now; place = result } ≡ put_page most cursor query text.now (record { out = out.entry.now; place = at }) }
+    ensures { record { out = out.new; place = result } ≡ put_page most cursor query text.now (record { out = out.old; place = at }) }
 {
     let a = write_fixed8(out, at, most);
     let b = write_fixed4(out, a, cursor.len);
@@ -298,7 +298,7 @@ fn write_page(most: u64, cursor: Span, query: Span, text: &[u8], out: &mut [u8],
 }
 
 fn write_digest(digest: Digest, out: &mut [u8], at: usize) -> usize
-    ensures { record { out = out.exit.now; place = result } ≡ put_digest digest (record { out = out.entry.now; place = at }) }
+    ensures { record { out = out.new; place = result } ≡ put_digest digest (record { out = out.old; place = at }) }
 {
     match digest {
         Digest::Absent => write_byte(out, at, 0),
@@ -318,7 +318,7 @@ pub(crate) fn write_message(
     nodes: &[u64],
     out: &mut [u8],
 ) -> usize
-    ensures { record { out = out.exit.now; place = result } ≡ put_message limit message text.now rows.now nodes.now (record { out = out.entry.now; place = 0 }) }
+    ensures { record { out = out.new; place = result } ≡ put_message limit message text.now rows.now nodes.now (record { out = out.old; place = 0 }) }
 {
     match message {
         Message::Startup {

@@ -1,0 +1,37 @@
+use mathlib.Core.Path.{sym, ◌∙◌}
+use native.Mathlib.Omega.{arith}
+use Rattle.desc.proofs.Bounds.{measured_bounds}
+use Rattle.desc.proofs.DecodeLaws.{decode_large, decode_bad, decode_text, decode_nodes, decode_done}
+use borrow.Author.Rules.{rules}
+use Rattle.desc.proofs.decode_within.Goals as goal
+
+pub returns-then-max-length : goal.returns-then-max-length
+returns-then-max-length c =
+    let a = c.args in
+    decode_large a.text.now a.rows.now a.nodes.now a.max a.limit a.payload.now c.if-max-length.true
+
+pub returns-then-text-t : goal.returns-then-text-t
+returns-then-text-t c =
+    let a = c.args in
+    decode_text a.text.now a.rows.now a.nodes.now a.max a.limit a.payload.now _ _ _ c.if-max-length.false (sym c.measure_desc.ensures ∙ c.in-Read.is) c.if-text-t.true
+
+pub overflow_mul-numbers : goal.overflow_mul-numbers
+overflow_mul-numbers c =
+    let b = measured_bounds _ _ _ _ _ _ _ _ (omega arith) (sym c.measure_desc.ensures ∙ c.in-Read.is) in
+    let p = c.requires in
+    search rules
+
+pub returns-then-nodes-numbers : goal.returns-then-nodes-numbers
+returns-then-nodes-numbers c =
+    let a = c.args in
+    decode_nodes a.text.now a.rows.now a.nodes.now a.max a.limit a.payload.now _ _ _ c.if-max-length.false (sym c.measure_desc.ensures ∙ c.in-Read.is) c.if-text-t.false c.if-nodes-numbers.true
+
+pub returns-else-nodes-numbers : goal.returns-else-nodes-numbers
+returns-else-nodes-numbers c =
+    let a = c.args in
+    decode_done a.text.now a.rows.now a.nodes.now a.max a.limit a.payload.now _ _ _ _ _ _ _ _ _ _ c.if-max-length.false (sym c.measure_desc.ensures ∙ c.in-Read.is) c.if-text-t.false c.if-nodes-numbers.false c.walk.ensures c.clear_bytes.ensures c.clear_numbers.ensures c.clear_numbers-in-Read.ensures
+
+pub returns-in-Refused : goal.returns-in-Refused
+returns-in-Refused c =
+    let a = c.args in
+    decode_bad a.text.now a.rows.now a.nodes.now a.max a.limit a.payload.now _ c.if-max-length.false (sym c.measure_desc.ensures ∙ c.in-Refused.is)

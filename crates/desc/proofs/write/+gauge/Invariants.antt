@@ -1,0 +1,18 @@
+use mathlib.Core.Path.{◌≡◌}
+use mathlib.Core.List.{[]}
+use Prim.Native.Nat.{◌-◌, ◌+◌, ◌≤◌}
+use Rattle.desc.specs.Inner.Emission.{nowhere}
+use Rattle.desc.specs.Table.{kids_at, table}
+use Rattle.desc.proofs.EmitLaws.{kids_emission}
+use Rattle.desc.proofs.write.+gauge.Given as goal
+
+abbrev pub decreases-gauge : goal.decreases-gauge
+decreases-gauge l = l.depth
+
+abbrev pub invariant-loop-i : goal.invariant-loop-i
+invariant-loop-i l = (l.i ≤ l.count)
+    × (kids_emission [] l.tag (kids_at (table (l.depth - 1) l.nodes) l.nodes l.tag l.count (l.n + 1)) (nowhere l.initial.a)
+    ≡ kids_emission [] l.tag (kids_at (table (l.depth - 1) l.nodes) l.nodes l.tag (l.count - l.i) l.m) (nowhere l.a))
+
+abbrev pub decreases-loop-i : goal.decreases-loop-i
+decreases-loop-i l = l.count - l.i
