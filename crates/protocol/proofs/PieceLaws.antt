@@ -6,8 +6,8 @@ use Prim.Native.Nat.{ℕ, ◌+◌, ◌*◌}
 use native.Mathlib.Nat.{add_assoc, add-zero}
 use native.Mathlib.Omega.{arith}
 use lib.ListN.{length, length-append}
-use Rattle.desc.specs.Layout.{width, placed, nodes_of}
-use Rattle.desc.specs.Trees.{Tree, size}
+use Rattle.desc.specs.Layout.{width, placed}
+use Rattle.desc.specs.Trees.{Tree}
 use Rattle.desc.proofs.LayoutLaws.{size_placed, length_nodes}
 use Rattle.protocol.specs.Inner.Loading.{stored, Mem, put}
 use Rattle.protocol.specs.Pieces.{Piece, none, tree, ◌⊕◌}

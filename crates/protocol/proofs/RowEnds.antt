@@ -2,7 +2,7 @@
 use mathlib.Core.Bool.{Bool, true, false}
 use mathlib.Core.Path.{◌≡◌, refl, ap}
 use mathlib.Core.List.{List, [], ◌∷◌}
-use Prim.Native.Nat.{ℕ, ◌+◌, ◌-◌, ◌*◌, ◌≤◌}
+use Prim.Native.Nat.{ℕ, ◌+◌, ◌*◌, ◌≤◌}
 use native.Mathlib.Omega.{arith}
 use lib.ListN.{length, length-append}
 use Rattle.varint.specs.Formats.{got}
@@ -10,9 +10,9 @@ use Rattle.varint.specs.declared.error.Mismatch.TheVariants as M
 use Rattle.varint.specs.declared.error.Refusal.TheVariants.{UnknownPredicate}
 use Rattle.varint.proofs.FormatEnds.{Ends, varint_ends, pair_ends, named_ends}
 use Rattle.varint.proofs.FormatParts.{got_of}
-use Rattle.desc.specs.Trees.{Tree, size}
+use Rattle.desc.specs.Trees.{Tree}
 use Rattle.desc.proofs.LayoutLaws.{length_placed}
-use Rattle.protocol.specs.Fields.{text, descriptor, narrow, byte, Optional, absent, present, optional_on, print_optional, optional}
+use Rattle.protocol.specs.Fields.{descriptor, narrow, Optional, absent, present, optional_on, print_optional, optional}
 use Rattle.protocol.specs.Fetch.{join_id, split_id, fact_id, bad_fact, pair}
 use Rattle.protocol.specs.Pieces.{Piece}
 use Rattle.protocol.specs.Profile.{to_step, from_step, step, lay_step}

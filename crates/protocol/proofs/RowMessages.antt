@@ -19,10 +19,10 @@ use Rattle.desc.specs.declared.Walked.TheVariants as W
 use Rattle.protocol.specs.Fetch.{pair}
 use Rattle.protocol.specs.Ids.{lay_id}
 use Rattle.protocol.specs.Laying.{Laid}
-use Rattle.protocol.specs.Inner.Loading.{stored, Mem, put, loaded, failed, load, load_rows, told_row, LoadsRows, refused, outcome, told, Reads}
+use Rattle.protocol.specs.Inner.Loading.{stored, Mem, put, loaded, failed, load, load_rows, told_row, LoadsRows, outcome, told, Reads}
 use Rattle.protocol.specs.Pieces.{Piece, many}
 use Rattle.protocol.specs.Profile.{step, lay_step}
-use Rattle.protocol.specs.Startup.{Claim, claim, lay_claim}
+use Rattle.protocol.specs.Startup.{claim, lay_claim}
 use Rattle.protocol.specs.Types.{predicate, lay_predicate}
 use Rattle.protocol.specs.declared.message.RowKind.TheVariants as K
 use Rattle.protocol.specs.declared.read.Found.{Found}

@@ -5,7 +5,7 @@ use Rattle.varint.specs.Utf8.{utf8, scan, lead}
 use Rattle.varint.specs.Texts.{skim_text, get_text, get_name}
 use Rattle.varint.specs.Leb128.{read_from, get_u64}
 use Rattle.std.specs.Prelude.{◌≡◌, refl, Bool, true, List, [], ◌∷◌, ℕ, length}
-use Rattle.varint.specs.Formats.{Got, Format, ◌⊗◌, named, got, bad}
+use Rattle.varint.specs.Formats.{Got, Format, ◌⊗◌, named, bad}
 use Rattle.varint.specs.Gathering.{Held, held, then_held, name_held, text_held}
 use Rattle.varint.specs.declared.error.Mismatch.TheVariants as M
 use Rattle.protocol.specs.Fields.{name, text, control_op, flag}
