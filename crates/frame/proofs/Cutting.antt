@@ -12,7 +12,7 @@ use Rattle.varint.specs.Refusals.{code_of}
 use Rattle.varint.specs.declared.error.Refusal.{Refusal}
 use Rattle.frame.specs.declared.receiver.Receiver.{Receiver}
 use Rattle.frame.specs.Worlds.{Limits, Setup, Lent, editor, fresh}
-use Rattle.frame.specs.Reading.{Event, frame, halt, Run, done, after, refuse, judge, lent_by, First, short, bad, whole, first, holding, stopped_at, answered, frame_of, read, reading}
+use Rattle.frame.specs.Reading.{Event, halt, Run, done, after, refuse, judge, lent_by, First, short, bad, whole, first, holding, stopped_at, answered, frame_of, read, reading}
 use Rattle.frame.specs.Offering.{Offer, opens}
 use Rattle.frame.specs.Driving.{joined, plus, drive, steps_in, driving}
 use Rattle.frame.specs.Runs.{opened, Cuts, EveryCut}

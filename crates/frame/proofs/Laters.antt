@@ -15,7 +15,7 @@ use Rattle.varint.proofs.Basics.{below}
 use Rattle.frame.specs.Worlds.{Limits, Setup, Lent, fresh}
 use Rattle.frame.specs.Reading.{Event, done, after, refuse, judge, lent_by, First, short, bad, whole, first, holding, stopped_at, answered}
 use Rattle.frame.specs.Offering.{Offer, declined, stop_of}
-use Rattle.frame.specs.Driving.{plus, Driven, later, drive, steps_in, driving}
+use Rattle.frame.specs.Driving.{plus, Driven, drive, steps_in, driving}
 use Rattle.frame.specs.Runs.{behind, later_pieces}
 use Rattle.frame.proofs.HeldLaws.{held_none}
 use Rattle.frame.proofs.DrivingLaws.{turn}

@@ -5,8 +5,8 @@ use mathlib.Core.List.{List, [], ◌++◌, append-nil}
 use Prim.Native.Nat.{ℕ, zero, suc, ◌+◌, ◌-◌, ◌≤◌, ◌<◌, min}
 use native.Mathlib.Nat.{sub-zero, zero-sub, suc-sub-suc}
 use native.Mathlib.Omega.{arith}
-use borrow.Author.Tests.{lt-ltb, le-ltb, lt-leb, ltb-true, ltb-false, leb-false, eq-eqb, ne_eqb, eqb-true}
-use lib.Dec.{ltb, leb, eqb}
+use borrow.Author.Tests.{lt-ltb, le-ltb, ltb-true, ltb-false, leb-false, eq-eqb, ne_eqb}
+use lib.Dec.{ltb, leb}
 use lib.ListN.{length, take, drop, get_or, replicate, length-append, length-take, length-drop, length-replicate, drop_of_length-le}
 use lib.Seq.{sets, sets-eq, take_at, drop-append-add, take_all, length-take-le, length-sets}
 use Rattle.varint.specs.Choice.{pick}
@@ -27,11 +27,10 @@ use Rattle.frame.specs.declared.receiver.Outcome.TheVariants.{More, Handed, Stop
 use Rattle.frame.specs.declared.receiver.Progress.{Progress}
 use Rattle.frame.specs.declared.receiver.Receiver.{Receiver}
 use Rattle.frame.specs.Frames.{length_of, header_of, decode_header}
-use Rattle.frame.specs.Worlds.{World, editor, progress_of, receiver_of, running, pad}
+use Rattle.frame.specs.Worlds.{World, editor, progress_of, running, pad}
 use Rattle.frame.specs.Reading.{Verdict, refuse, gather, judge, decoded_kind}
 use Rattle.frame.specs.declared.receiver.Opening.TheVariants.{Accepted}
 use Rattle.frame.specs.Offering.{Opens, opens, stop_of, setup_of, header_held, overfull, impossible, handed, loads, settles, takes, offering, world_of, offer_at}
-use Rattle.frame.proofs.Firsts.{gather_fits}
 
 -- ---- nine header bytes
 

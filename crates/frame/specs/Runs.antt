@@ -20,7 +20,7 @@ use Rattle.frame.specs.declared.receiver.Receiver.{Receiver}
 use Rattle.frame.specs.Frames.{kind_of, stream_of, length_of}
 use Rattle.frame.specs.Worlds.{Setup, Lent, World, editor, receiver_of, running, pad, fresh}
 use Rattle.frame.specs.Reading.{frame, halt, Run, done, after, judge, first_of, first, holding, stopped_at, decoded_kind, answered, read, reading}
-use Rattle.frame.specs.Offering.{Opens, opens, Offer, declined, stop_of, header_held, payload_held, impossible, handed, loads, settles, takes, offering}
+use Rattle.frame.specs.Offering.{Opens, opens, declined, stop_of, header_held, payload_held, impossible, handed, loads, settles, takes, offering}
 use Rattle.frame.specs.Driving.{joined, plus, Driven, later, drive, steps_in, driving}
 
 -- the world after an opening

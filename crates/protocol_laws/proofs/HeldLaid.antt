@@ -13,7 +13,6 @@ use Rattle.varint.specs.RoundTrips.{Bytes, All}
 use Rattle.varint.specs.Utf8.{utf8}
 use Rattle.varint.specs.declared.error.Refusal.TheVariants.{BlockTooLarge}
 use Rattle.varint.proofs.FormatGives.{Gives, any_gives, name_gives, pair_gives, named_gives, counted_gives}
-use Rattle.desc.specs.Layout.{nodes_of}
 use Rattle.protocol.specs.Complete.{lay_complete}
 use Rattle.protocol.specs.Control.{Control, lay_control, held_control}
 use Rattle.protocol.specs.Encoding.{held_as, held_said}

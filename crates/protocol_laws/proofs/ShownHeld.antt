@@ -8,14 +8,14 @@ use lib.ListN.{length}
 use Rattle.varint.specs.Gathering.{Held, held, then_held, text_held, name_held}
 use Rattle.varint.proofs.Basics.{pick_both, pick_cases}
 use Rattle.desc.proofs.GatherFine.{HeldAs, then_held_lem}
-use Rattle.protocol.specs.Control.{Control, held_control}
+use Rattle.protocol.specs.Control.{held_control}
 use Rattle.protocol.specs.Encoding.{held_as, held_said}
-use Rattle.protocol.specs.Error.{Error, held_error}
+use Rattle.protocol.specs.Error.{held_error}
 use Rattle.protocol.specs.Fetch.{Fetch, max_fetch, held_fetch}
 use Rattle.protocol.specs.Ids.{id_width, held_id, held_ids}
-use Rattle.protocol.specs.Page.{Page, raw_held, held_page}
+use Rattle.protocol.specs.Page.{raw_held, held_page}
 use Rattle.protocol.specs.Profile.{Step, step_width, step_numbers, held_step, held_profile}
-use Rattle.protocol.specs.Reply.{Reply, held_reply}
+use Rattle.protocol.specs.Reply.{held_reply}
 use Rattle.protocol.specs.RowsHeld.{held_times, all_good}
 use Rattle.protocol.specs.Said.{Said, said_startup, said_error, said_ids, said_types, said_control, said_reply, said_profile, said_page, said_fetch, opaque}
 use Rattle.protocol.specs.Startup.{Startup, claim_width, held_claim, held_startup}

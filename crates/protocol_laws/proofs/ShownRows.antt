@@ -19,7 +19,7 @@ use Rattle.desc.specs.Encoding.{held_in}
 use Rattle.desc.specs.Layout.{NameSpan, width, end_at, node_of, nodes_of, kid_nodes}
 use Rattle.desc.specs.Table.{cell, table, gather, gather_kids}
 use Rattle.desc.specs.Trees.{Tree, leaf, branch, Kids, none, more, kid_count, size, kid_size}
-use Rattle.desc.proofs.Tags.{Under, root}
+use Rattle.desc.proofs.Tags.{Under, root, below}
 use Rattle.desc.proofs.GatherFine.{HeldAs, then_held_lem}
 use Rattle.desc.proofs.GotAs.{GotAs}
 use Rattle.desc.proofs.LayoutLaws.{length_nodes}
@@ -178,6 +178,7 @@ mutual
 -- a root has no name
 root_name_lem : {name : NameSpan} {d : ℕ} → Under 0 name d → (name ≡ (0, 0)) × (d ≡ 0)
 root_name_lem root = (refl, refl)
+root_name_lem (below b) = elim b [ ]
 
 -- The descriptor at node n, taken out of the memory: where its root says that it ends, what is tested of it, and what its nodes show.
 pub record TreeShown (limit : ℕ) (tx nd : List ℕ) (n : ℕ) (tr : Tree (List ℕ)) : Type 0 where

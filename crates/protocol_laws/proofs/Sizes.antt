@@ -19,12 +19,11 @@ use Rattle.varint.proofs.Basics.{pick_both, pick_cases}
 use Rattle.varint.proofs.FormatEnds.{Ends, varint_ends, fixed_ends, pair_ends, named_ends, total, times_ends, counted_ends}
 use Rattle.varint.proofs.FormatParts.{no_got, got_of, times_length}
 use Rattle.varint.proofs.StoreLaws.{length_part}
-use Rattle.desc.specs.Trees.{size}
 use Rattle.desc.proofs.GotAs.{GotAs, got_as}
 use Rattle.protocol.specs.Codes.{mode_byte, mode_of, error_byte, error_of, op_byte, op_of}
 use Rattle.protocol.specs.Control.{to_control, from_control, control, read_control, lay_control}
 use Rattle.protocol.specs.Error.{to_error, from_error, error, read_error, lay_error}
-use Rattle.protocol.specs.Fields.{text, mode_got, mode, error_got, error_code, op_got, control_op, counted_to, raw, to_end}
+use Rattle.protocol.specs.Fields.{mode_got, mode, error_got, error_code, op_got, control_op, counted_to, raw, to_end}
 use Rattle.protocol.specs.Fetch.{to_fetch, from_fetch, max_fetch, digest_on, print_digest, digest, fetch, read_fetch, lay_fetch}
 use Rattle.protocol.specs.Ids.{id_width, lay_id, read_ids, lay_ids}
 use Rattle.protocol.specs.Page.{to_page, from_page, page, read_page, lay_page}

@@ -10,7 +10,6 @@ use Rattle.varint.specs.Formats.{Format, varint, print_text, print_all}
 use Rattle.varint.specs.Gathering.{Held, held, then_held, name_held}
 use Rattle.varint.specs.Leb128.{put_u64}
 use Rattle.desc.specs.Encoding.{held_in}
-use Rattle.desc.specs.Printing.{print}
 use Rattle.desc.specs.Table.{cell, table}
 use Rattle.desc.specs.Trees.{Tree}
 use Rattle.protocol.specs.Fetch.{pair}

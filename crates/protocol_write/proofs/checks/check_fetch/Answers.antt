@@ -1,0 +1,16 @@
+use borrow.Author.Tests.{lt-ltb, le-ltb}
+use Rattle.desc.specs.Emitting.{then_names}
+use Rattle.protocol_write.specs.Inner.Checking.{fetch_fine}
+use Rattle.protocol_write.proofs.checks.check_fetch.Goals as goal
+
+pub returns-then-count-gt-MAX_FETCH : goal.returns-then-count-gt-MAX_FETCH
+unfolding fetch_fine then_names
+returns-then-count-gt-MAX_FETCH c = rw (← c.check_rows.ensures, c.in-Good.is, lt-ltb 4096 _ c.if-count-gt-MAX_FETCH.true)
+
+pub returns-in-Refused : goal.returns-in-Refused
+unfolding fetch_fine then_names
+returns-in-Refused c = rw (← c.check_rows.ensures, c.in-Refused.is)
+
+pub returns-else-count-gt-MAX_FETCH : goal.returns-else-count-gt-MAX_FETCH
+unfolding fetch_fine then_names
+returns-else-count-gt-MAX_FETCH c = rw (← c.check_rows.ensures, c.in-Good.is, le-ltb 4096 _ c.if-count-gt-MAX_FETCH.false)
