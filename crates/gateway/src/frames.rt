@@ -50,43 +50,39 @@ fn of_slot(a: SlotAnswer) -> Parts
     }
 }
 
-#[unsafe(no_mangle)]
-pub extern "C" fn fjord_encode_frame(
+pub fn fjord_encode_frame(
     kind: u8,
     stream: u32,
     payload: &[u8],
     out: &mut [u8],
     answer: &mut [u64; 16],
 ) -> u64
-    ensures* { λ r. ⌜ record { result = r; answer = answer.new; out = out.new } ≡ encode_frame_call kind stream payload.now out.old ⌝ }
+    ensures { record { result = result; answer = answer.new; out = out.new } ≡ encode_frame_call kind stream payload.now out.old }
 {
     let written = encode_frame(kind, stream, payload, out);
     tell(of_written(written), answer)
 }
 
-#[unsafe(no_mangle)]
-pub extern "C" fn fjord_decode_header(bytes: &[u8], answer: &mut [u64; 16]) -> u64
-    ensures* { λ r. ⌜ record { result = r; answer = answer.new } ≡ header_call bytes.now ⌝ }
+pub fn fjord_decode_header(bytes: &[u8], answer: &mut [u64; 16]) -> u64
+    ensures { record { result = result; answer = answer.new } ≡ header_call bytes.now }
 {
     tell(of_header(decode_header(bytes)), answer)
 }
 
-#[unsafe(no_mangle)]
-pub extern "C" fn fjord_decode_frame(bytes: &[u8], answer: &mut [u64; 16]) -> u64
-    ensures* { λ r. ⌜ record { result = r; answer = answer.new } ≡ frame_call bytes.now ⌝ }
+pub fn fjord_decode_frame(bytes: &[u8], answer: &mut [u64; 16]) -> u64
+    ensures { record { result = result; answer = answer.new } ≡ frame_call bytes.now }
 {
     tell(of_frame(decode_frame(bytes)), answer)
 }
 
-#[unsafe(no_mangle)]
-pub extern "C" fn fjord_put_slot(
+pub fn fjord_put_slot(
     text: &[u8],
     start: u64,
     length: u64,
     slot: &mut [u8],
     answer: &mut [u64; 16],
 ) -> u64
-    ensures* { λ r. ⌜ record { result = r; answer = answer.new; out = slot.new } ≡ slot_call text.now start length slot.old ⌝ }
+    ensures { record { result = result; answer = answer.new; out = slot.new } ≡ slot_call text.now start length slot.old }
 {
     let shown = put_slot(text, start, length, slot);
     tell(of_slot(shown), answer)

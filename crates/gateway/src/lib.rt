@@ -1,5 +1,5 @@
-// The C entry points of the fjord session wire: the layers below, on numbers and slices. Each writes its whole answer, sixteen numbers, and returns 0
-// or the refusal's number.
+// The entry points of the fjord session wire: the layers below, on numbers and slices. Each writes its whole answer, sixteen numbers, and returns 0
+// or the refusal's number. The crate gateway_c exports them for C.
 #![tactic(auto)]
 
 mod answers;
@@ -16,11 +16,13 @@ ghost use Rattle.gateway.specs.Entries.{named_entry, fault_of, encode_numbers, d
 use answers::{of_desc, of_number, of_written, tell, tell_message};
 use desc::decode_desc;
 use desc::write::encode_desc;
+pub use frames::{fjord_decode_frame, fjord_decode_header, fjord_encode_frame, fjord_put_slot};
 use numbers::{MaybeMessage, message_of};
 use protocol::decode;
 use protocol::message::RowKind;
 use protocol_write::checks::few_rows;
 use protocol_write::encode;
+pub use receiver::{fjord_offer, fjord_open};
 use varint::error::{Fault, Refusal};
 use varint::{Written, encode_u64, get_u64};
 
@@ -34,8 +36,7 @@ pub(crate) fn named(entry: u64) -> u8
     entry as u8
 }
 
-#[unsafe(no_mangle)]
-pub extern "C" fn fjord_decode(
+pub fn fjord_decode(
     entry: u64,
     payload: &[u8],
     text: &mut [u8],
@@ -43,22 +44,21 @@ pub extern "C" fn fjord_decode(
     nodes: &mut [u64],
     answer: &mut [u64; 16],
 ) -> u64
-    ensures* { λ r. ⌜ record { result = r; answer = answer.new; text = text.new; rows = rows.new; nodes = nodes.new } ≡ decode_call entry payload.now text.old rows.old nodes.old ⌝ }
+    ensures { record { result = result; answer = answer.new; text = text.new; rows = rows.new; nodes = nodes.new } ≡ decode_call entry payload.now text.old rows.old nodes.old }
 {
     let number = named(entry);
     let read = decode(number, payload, text, rows, nodes);
     tell_message(number as u64, read, answer)
 }
 
-#[unsafe(no_mangle)]
-pub extern "C" fn fjord_decode_desc(
+pub fn fjord_decode_desc(
     payload: &[u8],
     text: &mut [u8],
     rows: &mut [u64],
     nodes: &mut [u64],
     answer: &mut [u64; 16],
 ) -> u64
-    ensures* { λ r. ⌜ record { result = r; answer = answer.new; text = text.new; rows = rows.new; nodes = nodes.new } ≡ decode_desc_call payload.now text.old rows.old nodes.old ⌝ }
+    ensures { record { result = result; answer = answer.new; text = text.new; rows = rows.new; nodes = nodes.new } ≡ decode_desc_call payload.now text.old rows.old nodes.old }
 {
     let read = decode_desc(payload, text, rows, nodes);
     tell(of_desc(read), answer)
@@ -102,8 +102,7 @@ fn encode_numbers(
     }
 }
 
-#[unsafe(no_mangle)]
-pub extern "C" fn fjord_encode(
+pub fn fjord_encode(
     number: u64,
     fields: &[u64; 6],
     text: &[u8],
@@ -112,35 +111,27 @@ pub extern "C" fn fjord_encode(
     out: &mut [u8],
     answer: &mut [u64; 16],
 ) -> u64
-    ensures* { λ r. ⌜ record { result = r; answer = answer.new; out = out.new } ≡ encode_call number fields.now text.now rows.now nodes.now out.old ⌝ }
+    ensures { record { result = result; answer = answer.new; out = out.new } ≡ encode_call number fields.now text.now rows.now nodes.now out.old }
 {
     let written = encode_numbers(number, fields, text, rows, nodes, out);
     tell(of_written(written), answer)
 }
 
-#[unsafe(no_mangle)]
-pub extern "C" fn fjord_encode_desc(
-    text: &[u8],
-    nodes: &[u64],
-    out: &mut [u8],
-    answer: &mut [u64; 16],
-) -> u64
-    ensures* { λ r. ⌜ record { result = r; answer = answer.new; out = out.new } ≡ encode_desc_call text.now nodes.now out.old ⌝ }
+pub fn fjord_encode_desc(text: &[u8], nodes: &[u64], out: &mut [u8], answer: &mut [u64; 16]) -> u64
+    ensures { record { result = result; answer = answer.new; out = out.new } ≡ encode_desc_call text.now nodes.now out.old }
 {
     let written = encode_desc(text, nodes, out);
     tell(of_written(written), answer)
 }
 
-#[unsafe(no_mangle)]
-pub extern "C" fn fjord_get_u64(bytes: &[u8], answer: &mut [u64; 16]) -> u64
-    ensures* { λ r. ⌜ record { result = r; answer = answer.new } ≡ get_call bytes.now ⌝ }
+pub fn fjord_get_u64(bytes: &[u8], answer: &mut [u64; 16]) -> u64
+    ensures { record { result = result; answer = answer.new } ≡ get_call bytes.now }
 {
     tell(of_number(get_u64(bytes, 0)), answer)
 }
 
-#[unsafe(no_mangle)]
-pub extern "C" fn fjord_put_u64(value: u64, out: &mut [u8], answer: &mut [u64; 16]) -> u64
-    ensures* { λ r. ⌜ record { result = r; answer = answer.new; out = out.new } ≡ put_call value out.old ⌝ }
+pub fn fjord_put_u64(value: u64, out: &mut [u8], answer: &mut [u64; 16]) -> u64
+    ensures { record { result = result; answer = answer.new; out = out.new } ≡ put_call value out.old }
 {
     let written = encode_u64(out, value);
     tell(of_written(written), answer)

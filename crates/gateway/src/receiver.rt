@@ -103,8 +103,7 @@ pub fn offer_step(
     }
 }
 
-#[unsafe(no_mangle)]
-pub extern "C" fn fjord_open(
+pub fn fjord_open(
     receiver: &mut Receiver,
     table: &[u8],
     hold: &mut [u8],
@@ -117,8 +116,7 @@ pub extern "C" fn fjord_open(
     o.code
 }
 
-#[unsafe(no_mangle)]
-pub extern "C" fn fjord_offer(
+pub fn fjord_offer(
     receiver: &mut Receiver,
     piece: &[u8],
     hold: &mut [u8],
