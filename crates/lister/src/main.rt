@@ -3,7 +3,8 @@
 // not known to be over.
 #![tactic(auto)]
 
-ghost use Rattle.std.specs.Prelude.{◌+◌, ◌*◌, ◌<◌, ◌≤◌, IfOk, length};
+ghost use Rattle.std.specs.Prelude.{◌≡◌, ◌+◌, ◌*◌, ◌<◌, ◌≤◌, IfOk, OnOk, OnErr, length, take};
+ghost use Rattle.std.specs.Io.KnownBytes.{Appends, Consumes, IsAtEnd, Keeps};
 ghost use Rattle.io.specs.Counts.{IsPrefixLen};
 
 use frame::receiver;
@@ -24,7 +25,10 @@ const LAST_LINE: usize = 29;
 // Reads what there is, as much as fits, and answers how much: 0 at the end of the input. A read that a signal ended is made again: the turns are counted up to a
 // number that no program uses up.
 fn read_some<R: Read>(input: &mut R, buf: &mut [u8]) -> Result<usize>
-    ensures { IfOk result (λ n. IsPrefixLen n buf.new) }
+    ensures bound { IfOk result (λ n. IsPrefixLen n buf.new) }
+    ensures taken { IfOk result (λ n. Consumes (R.remaining input.old) (R.remaining input.new) (take n buf.new)) }
+    ensures end { IfOk result (λ n. n ≡ 0 → 0 < length buf.old → IsAtEnd (R.remaining input.new)) }
+    ensures err { OnErr result (Keeps (R.remaining input.old) (R.remaining input.new)) }
 {
     for _ in 0..u64::MAX {
         match input.read(buf) {
@@ -38,7 +42,9 @@ fn read_some<R: Read>(input: &mut R, buf: &mut [u8]) -> Result<usize>
 
 // Reads until `buf` is full or the input ends, however few bytes a read brings.
 fn read_full<R: Read>(input: &mut R, buf: &mut [u8]) -> Result<usize>
-    ensures { IfOk result (λ n. IsPrefixLen n buf.new) }
+    ensures bound { IfOk result (λ n. IsPrefixLen n buf.new) }
+    ensures taken { IfOk result (λ n. Consumes (R.remaining input.old) (R.remaining input.new) (take n buf.new)) }
+    ensures end { IfOk result (λ n. n < length buf.old → IsAtEnd (R.remaining input.new)) }
 {
     let mut count = 0;
     while count < buf.len() {
@@ -55,6 +61,7 @@ fn read_full<R: Read>(input: &mut R, buf: &mut [u8]) -> Result<usize>
 fn write_some<W: Write>(output: &mut W, text: &[u8]) -> Result<usize>
     ensures bound { IfOk result (λ n. n ≤ length text.now) }
     ensures some { IfOk result (λ n. 0 < n) }
+    ensures written { IfOk result (λ n. Appends (W.contents output.old) (W.contents output.new) (take n text.now)) }
 {
     for _ in 0..u64::MAX {
         match output.write(text) {
@@ -70,6 +77,7 @@ fn write_some<W: Write>(output: &mut W, text: &[u8]) -> Result<usize>
 // Prints the first `len` bytes of a page.
 fn print<W: Write>(output: &mut W, page: &[u8], len: usize) -> Result<()>
     requires { len ≤ length page.now }
+    ensures { OnOk result (Appends (W.contents output.old) (W.contents output.new) (take len page.now)) }
 {
     let mut done = 0;
     while done < len {
