@@ -1,14 +1,16 @@
 // Lists a run of frames: reads the kind table and then the run from standard input, and prints a line for each frame and one for the end. What the lines are
-// stands in `listing`; this program reads and writes. A read or a write that fails is told on standard error and ends it with no last line: the run is not
-// known to be over.
+// stands in `listing`; this program reads and writes. A read or a write that fails is the error that `main` returns, and ends it with no last line: the run is
+// not known to be over.
 #![tactic(auto)]
 
-ghost use Rattle.std.specs.Prelude.{◌+◌, ◌*◌, ◌≤◌, length};
+ghost use Rattle.std.specs.Prelude.{◌≡◌, ◌+◌, ◌*◌, ◌<◌, ◌≤◌, IfOk, OnOk, OnErr, length, take};
+ghost use Rattle.std.specs.Io.KnownBytes.{Appends, Consumes, IsAtEnd, Keeps};
 ghost use Rattle.io.specs.Counts.{IsPrefixLen};
 
 use frame::receiver;
 use frame::receiver::{Opening, Receiver};
 use listing::Last;
+use std::io::{Error, ErrorKind, Read, Result, Write};
 use varint::error::code_of;
 
 // How much of a run is read at once.
@@ -20,120 +22,82 @@ const PAGE: usize = 307200;
 // Room for the last line.
 const LAST_LINE: usize = 29;
 
-// How a read went: so many bytes are there, none at the end of the input; or it failed, which was told.
-#[derive(Clone, Copy)]
-struct Read {
-    count: usize,
-    failed: bool,
-}
-
-fn tell_read() {
-    os::fail(b"lister: cannot read");
-}
-
-fn tell_write() {
-    os::fail(b"lister: cannot write");
-}
-
-// Reads what there is, as much as fits. A read that a signal ended is made again: the turns are counted down from a number that no program uses up.
-fn read_some(buf: &mut [u8]) -> Read
-    ensures { IsPrefixLen result.count buf.new }
+// Reads what there is, as much as fits, and answers how much: 0 at the end of the input. A read that a signal ended is made again: the turns are counted up to a
+// number that no program uses up.
+fn read_some<R: Read>(input: &mut R, buf: &mut [u8]) -> Result<usize>
+    ensures bound { IfOk result (λ n. IsPrefixLen n buf.new) }
+    ensures taken { IfOk result (λ n. Consumes (R.remaining input.old) (R.remaining input.new) (take n buf.new)) }
+    ensures end { IfOk result (λ n. n ≡ 0 → 0 < length buf.old → IsAtEnd (R.remaining input.new)) }
+    ensures err { OnErr result (Keeps (R.remaining input.old) (R.remaining input.new)) }
 {
-    let mut turns = u64::MAX;
-    while 0 < turns {
-        let got = libc::read(libc::STDIN_FILENO, buf);
-        if 0 <= got {
-            return Read {
-                count: io::count(got, buf),
-                failed: false,
-            };
+    for _ in 0..u64::MAX {
+        match input.read(buf) {
+            Ok(n) => return Ok(n),
+            Err(e) if e.kind() == ErrorKind::Interrupted => {}
+            Err(e) => return Err(e),
         }
-        if os::errno() != libc::EINTR {
-            break;
-        }
-        turns -= 1;
     }
-    tell_read();
-    Read {
-        count: 0,
-        failed: true,
-    }
+    Err(Error::from(ErrorKind::Interrupted))
 }
 
 // Reads until `buf` is full or the input ends, however few bytes a read brings.
-fn read_full(buf: &mut [u8]) -> Read
-    ensures { IsPrefixLen result.count buf.new }
+fn read_full<R: Read>(input: &mut R, buf: &mut [u8]) -> Result<usize>
+    ensures bound { IfOk result (λ n. IsPrefixLen n buf.new) }
+    ensures taken { IfOk result (λ n. Consumes (R.remaining input.old) (R.remaining input.new) (take n buf.new)) }
+    ensures end { IfOk result (λ n. n < length buf.old → IsAtEnd (R.remaining input.new)) }
 {
     let mut count = 0;
     while count < buf.len() {
-        let read = read_some(&mut buf[count..]);
-        if read.failed {
-            return Read {
-                count,
-                failed: true,
-            };
-        }
-        if read.count == 0 {
+        let n = read_some(input, &mut buf[count..])?;
+        if n == 0 {
             break;
         }
-        count += read.count;
+        count += n;
     }
-    Read {
-        count,
-        failed: false,
-    }
+    Ok(count)
 }
 
-// Writes some of `text`, as much as is taken, and answers how much: 0 where the write failed, which was told. One that a signal ended is made again.
-fn write_some(text: &[u8]) -> usize
-    ensures { result ≤ length text.now }
+// Writes some of `text`, as much as is taken, and answers how much. One that a signal ended is made again.
+fn write_some<W: Write>(output: &mut W, text: &[u8]) -> Result<usize>
+    ensures bound { IfOk result (λ n. n ≤ length text.now) }
+    ensures some { IfOk result (λ n. 0 < n) }
+    ensures written { IfOk result (λ n. Appends (W.contents output.old) (W.contents output.new) (take n text.now)) }
 {
-    let mut turns = u64::MAX;
-    while 0 < turns {
-        let put = libc::write(libc::STDOUT_FILENO, text);
-        if 0 < put {
-            return io::count(put, text);
+    for _ in 0..u64::MAX {
+        match output.write(text) {
+            Ok(0) => return Err(Error::from(ErrorKind::WriteZero)),
+            Ok(n) => return Ok(n),
+            Err(e) if e.kind() == ErrorKind::Interrupted => {}
+            Err(e) => return Err(e),
         }
-        if put == 0 {
-            break; // no error, so that errno says nothing of it
-        }
-        if os::errno() != libc::EINTR {
-            break;
-        }
-        turns -= 1;
     }
-    tell_write();
-    0
+    Err(Error::from(ErrorKind::Interrupted))
 }
 
-// Prints the first `len` bytes of a page, and answers whether all of them were written.
-fn print(page: &[u8], len: usize) -> bool
+// Prints the first `len` bytes of a page.
+fn print<W: Write>(output: &mut W, page: &[u8], len: usize) -> Result<()>
     requires { len ≤ length page.now }
+    ensures { OnOk result (Appends (W.contents output.old) (W.contents output.new) (take len page.now)) }
 {
     let mut done = 0;
     while done < len {
-        let put = write_some(&page[done..len]);
-        if put == 0 {
-            return false;
-        }
-        done += put;
+        done += write_some(output, &page[done..len])?;
     }
-    true
+    Ok(())
 }
 
-fn print_last(last: Last) {
+fn print_last<W: Write>(output: &mut W, last: Last) -> Result<()> {
     let mut line = [0u8; LAST_LINE];
     let n = listing::put_last(&mut line, last);
-    print(&line, n);
+    print(output, &line, n)
 }
 
-// The run so far: its receiver, how it ends if nothing follows, whether there may be more of it, and whether a read or a write failed.
+// The run so far: its receiver, how it ends if nothing follows, and whether there may be more of it.
 #[derive(Clone, Copy)]
 struct Run {
     receiver: Receiver,
     last: Last,
     more: bool,
-    failed: bool,
 }
 
 fn is_over(last: Last) -> bool {
@@ -144,68 +108,66 @@ fn is_over(last: Last) -> bool {
 }
 
 // Reads the next piece of the run and prints its lines, for all of which the page has room.
-fn list_next(
+fn list_next<R: Read, W: Write>(
     run: Run,
+    input: &mut R,
+    output: &mut W,
     chunk: &mut [u8],
     hold: &mut [u8],
     text: &mut [u8],
     rows: &mut [u64],
     nodes: &mut [u64],
     page: &mut [u8],
-) -> Run
+) -> Result<Run>
     requires { 84 * (length chunk.old + 9) ≤ 9 * length page.old }
 {
     let before = run.receiver;
     let last = run.last;
-    let read = read_some(chunk);
-    let n = read.count;
+    let n = read_some(input, chunk)?;
     if n == 0 {
-        return Run {
+        return Ok(Run {
             receiver: before,
             last,
             more: false,
-            failed: read.failed,
-        };
+        });
     }
     let l = listing::list_piece(before, &chunk[..n], hold, text, rows, nodes, page);
     let receiver = l.receiver;
     let last = l.last;
-    let printed = print(page, l.len);
-    Run {
+    print(output, page, l.len)?;
+    Ok(Run {
         receiver,
         last,
-        more: printed && !is_over(last),
-        failed: !printed,
-    }
+        more: !is_over(last),
+    })
 }
 
-// Lists a run to its end or its stop. Nothing says that the input ends, so the pieces are counted down from a number that no run uses up.
-fn list_run(
+// Lists a run to its end or its stop. Nothing says that the input ends, so the pieces are counted up to a number that no run uses up.
+fn list_run<R: Read, W: Write>(
     receiver: Receiver,
+    input: &mut R,
+    output: &mut W,
     chunk: &mut [u8],
     hold: &mut [u8],
     text: &mut [u8],
     rows: &mut [u64],
     nodes: &mut [u64],
     page: &mut [u8],
-) -> Run
+) -> Result<Run>
     requires { 84 * (length chunk.old + 9) ≤ 9 * length page.old }
 {
     let mut run = Run {
         receiver,
         last: Last::Held(0),
         more: true,
-        failed: false,
     };
-    let mut turns = u64::MAX;
-    while 0 < turns {
+    for _ in 0..u64::MAX {
         if !run.more {
             break;
         }
-        run = list_next(run, chunk, hold, text, rows, nodes, page);
-        turns -= 1;
+        run = list_next(run, input, output, chunk, hold, text, rows, nodes, page)?;
     }
-    run
+    Ok(run)
 }
 
 // A function of its own, since the prover does not write so long an array out.
@@ -214,36 +176,37 @@ fn empty_page() -> [u8; PAGE] {
 }
 
 // Lends the run its memory: text of 65,536 bytes as the hold has, rows and nodes of 8,192 numbers.
-fn list_opened(receiver: Receiver, hold: &mut [u8]) {
+fn list_opened<R: Read, W: Write>(
+    receiver: Receiver,
+    input: &mut R,
+    output: &mut W,
+    hold: &mut [u8],
+) -> Result<()> {
     let mut chunk = [0u8; CHUNK];
     let mut text = io::large_buffer();
     let mut rows = [0u64; 8192];
     let mut nodes = [0u64; 8192];
     let mut page = empty_page();
     let run = list_run(
-        receiver, &mut chunk, hold, &mut text, &mut rows, &mut nodes, &mut page,
-    );
+        receiver, input, output, &mut chunk, hold, &mut text, &mut rows, &mut nodes, &mut page,
+    )?;
     let last = run.last;
-    if !run.failed {
-        print_last(last);
-    }
+    print_last(output, last)
 }
 
-fn main() {
+fn main(rt: HostRuntime) -> Result<()> {
+    let mut input = rt.stdin();
+    let mut output = rt.stdout();
     let mut table = [0u8; 256];
-    let read = read_full(&mut table);
-    if read.failed {
-        return;
-    }
-    let n = read.count;
+    let n = read_full(&mut input, &mut table)?;
     let mut hold = io::large_buffer();
     let o = receiver::open(receiver::unopened(), &table[..n], &mut hold);
     let opening = o.opening;
     match opening {
-        Opening::Refused(e) => print_last(Last::Stopped(code_of(e).number)),
+        Opening::Refused(e) => print_last(&mut output, Last::Stopped(code_of(e).number)),
         Opening::Accepted => {
             let r = o.receiver;
-            list_opened(r, &mut hold);
+            list_opened(r, &mut input, &mut output, &mut hold)
         }
     }
 }

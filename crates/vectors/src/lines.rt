@@ -1,10 +1,10 @@
 // The lines of a file, one at a time.
 use crate::parts::front;
+use std::io::{Read, Result};
 
-// A file that is read in chunks: the bytes of the chunk from `at` up to `end` are still to come.
+// Where a file stands that is read in chunks: the bytes of the chunk from `at` up to `end` are still to come.
 #[derive(Clone, Copy)]
 pub struct Source {
-    fd: i32,
     at: usize,
     end: usize,
 }
@@ -21,21 +21,17 @@ pub struct Line {
 }
 
 impl Source {
-    pub(crate) fn new(fd: i32) -> Source {
-        Source { fd, at: 0, end: 0 }
+    pub(crate) fn new() -> Source {
+        Source { at: 0, end: 0 }
     }
 
-    // Reads the next chunk where this one is used up. A read that fails ends the file, as the count of its lines then shows.
-    fn refilled(self, chunk: &mut [u8]) -> Source {
+    // Reads the next chunk where this one is used up.
+    fn refilled<F: Read>(self, file: &mut F, chunk: &mut [u8]) -> Result<Source> {
         if self.at < front(chunk, self.end).len() {
-            return self;
+            return Ok(self);
         }
-        let got = libc::read(self.fd, chunk);
-        Source {
-            fd: self.fd,
-            at: 0,
-            end: io::count(got, chunk),
-        }
+        let end = file.read(chunk)?;
+        Ok(Source { at: 0, end })
     }
 }
 
@@ -55,26 +51,35 @@ impl Line {
     }
 
     // One byte more of the line, or its end.
-    fn stepped(mut self, chunk: &mut [u8], buffer: &mut [u8]) -> Line {
-        let source = self.source.refilled(chunk);
+    fn stepped<F: Read>(
+        mut self,
+        file: &mut F,
+        chunk: &mut [u8],
+        buffer: &mut [u8],
+    ) -> Result<Line> {
+        let source = self.source.refilled(file, chunk)?;
         let held = front(chunk, source.end);
         let at = source.at;
         if held.len() <= at {
             self.open = false;
-            return self;
+            return Ok(self);
         }
         let passed = Source {
-            fd: source.fd,
             at: at + 1,
             end: source.end,
         };
         self.source = passed;
-        self.with(buffer, held[at])
+        Ok(self.with(buffer, held[at]))
     }
 }
 
-// The next line. Nothing says that a line ends, so the bytes are counted down from a number that no run uses up.
-pub(crate) fn next_line(source: Source, chunk: &mut [u8], buffer: &mut [u8]) -> Line {
+// The next line. Nothing says that a line ends, so the bytes are counted up to a number that no run uses up.
+pub(crate) fn next_line<F: Read>(
+    source: Source,
+    file: &mut F,
+    chunk: &mut [u8],
+    buffer: &mut [u8],
+) -> Result<Line> {
     let mut line = Line {
         source,
         len: 0,
@@ -82,13 +87,11 @@ pub(crate) fn next_line(source: Source, chunk: &mut [u8], buffer: &mut [u8]) -> 
         fits: true,
         found: false,
     };
-    let mut turns = u64::MAX;
-    while 0 < turns {
+    for _ in 0..u64::MAX {
         if !line.open {
-            return line;
+            break;
         }
-        line = line.stepped(chunk, buffer);
-        turns -= 1;
+        line = line.stepped(file, chunk, buffer)?;
     }
-    line
+    Ok(line)
 }

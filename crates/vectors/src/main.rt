@@ -1,7 +1,8 @@
 // Replays recorded requests through the library, and compares each answer with the recorded one.
 //
 // A data file has a request to a line, `REQUEST = ANSWER`; blank lines and lines that start with `#` are skipped. A line whose
-// answer differs is printed with the answer that came, and at the end each file has a line with its counts.
+// answer differs is printed with the answer that came, and at the end each file has a line with its counts. A read or a write
+// that fails is the error that `main` returns.
 #![tactic(auto)]
 
 mod answer;
@@ -19,7 +20,9 @@ mod words;
 
 use lines::Source;
 use parts::front;
-use replay::{Tally, print};
+use replay::Tally;
+use std::fs::{File, Files};
+use std::io::{Read, Result};
 
 // A line has at most so many bytes, and so have the bytes that it spells and the buffer that it asks for.
 fn line_buffer() -> [u8; 16384] {
@@ -35,78 +38,83 @@ struct Progress {
 }
 
 // Reads a line, and replays it.
-fn replay_next(
+fn replay_next<P: Print, F: Read>(
+    rt: &P,
     p: Progress,
+    file: &mut F,
     chunk: &mut [u8],
     buffer: &mut [u8],
     bytes: &mut [u8],
     out: &mut [u8],
     answer: &mut [u8],
-) -> Progress {
-    let line = lines::next_line(p.source, chunk, buffer);
+) -> Result<Progress> {
+    let line = lines::next_line(p.source, file, chunk, buffer)?;
     let source = line.source;
     let text = front(buffer, line.len);
     let tally = if !line.found {
         p.tally
     } else if line.fits {
-        replay::replay_line(p.tally, text, bytes, out, answer)
+        replay::replay_line(rt, p.tally, text, bytes, out, answer)?
     } else {
-        replay::refuse_long(p.tally, text)
+        replay::refuse_long(rt, p.tally, text)?
     };
-    Progress {
+    Ok(Progress {
         source,
         tally,
         more: line.found,
-    }
+    })
 }
 
-// Nothing says that a file ends, so the lines are counted down from a number that no run uses up.
-fn replay_lines(
-    fd: i32,
+// Nothing says that a file ends, so the lines are counted up to a number that no run uses up.
+fn replay_lines<P: Print, F: Read>(
+    rt: &P,
+    file: &mut F,
     chunk: &mut [u8],
     buffer: &mut [u8],
     bytes: &mut [u8],
     out: &mut [u8],
     answer: &mut [u8],
-) -> Tally {
+) -> Result<Tally> {
     let mut p = Progress {
-        source: Source::new(fd),
+        source: Source::new(),
         tally: Tally::new(),
         more: true,
     };
-    let mut turns = u64::MAX;
-    while 0 < turns {
+    for _ in 0..u64::MAX {
         if !p.more {
             break;
         }
-        p = replay_next(p, chunk, buffer, bytes, out, answer);
-        turns -= 1;
+        p = replay_next(rt, p, file, chunk, buffer, bytes, out, answer)?;
     }
-    p.tally
+    Ok(p.tally)
 }
 
-fn replay_file(name: &[u8]) {
-    let fd = os::open_read(name);
-    if fd < 0 {
-        print(name);
-        print(b": cannot be opened\n");
-        return;
-    }
+fn replay_file<R: Files + Print>(rt: &R, name: &str) -> Result<()> {
+    let Ok(mut file) = File::open(rt, name) else {
+        return println!(rt; "{name}: cannot be opened");
+    };
     let mut chunk = io::large_buffer();
     let mut line = line_buffer();
     let mut bytes = line_buffer();
     let mut out = line_buffer();
     let mut answer = io::large_buffer();
-    let tally = replay_lines(fd, &mut chunk, &mut line, &mut bytes, &mut out, &mut answer);
-    libc::close(fd);
-    tally.print(name);
+    let tally = replay_lines(
+        rt,
+        &mut file,
+        &mut chunk,
+        &mut line,
+        &mut bytes,
+        &mut out,
+        &mut answer,
+    )?;
+    tally.print(rt, name)
 }
 
-fn main() {
-    replay_file(b"varint.txt");
-    replay_file(b"desc.txt");
-    replay_file(b"messages.txt");
-    replay_file(b"frame.txt");
-    replay_file(b"lister.txt");
-    replay_file(b"oracle.txt");
+fn main(rt: HostRuntime) -> Result<()> {
+    replay_file(&rt, "varint.txt")?;
+    replay_file(&rt, "desc.txt")?;
+    replay_file(&rt, "messages.txt")?;
+    replay_file(&rt, "frame.txt")?;
+    replay_file(&rt, "lister.txt")?;
+    replay_file(&rt, "oracle.txt")
 }

@@ -3,7 +3,7 @@ use crate::answer::Outcome;
 use crate::parts::{after, front};
 use crate::{decode_ops, encode_ops, varint_ops};
 use check::same;
-use libc::STDOUT_FILENO;
+use std::io::Result;
 
 // How many requests were replayed, and how many of them differ.
 #[derive(Clone, Copy)]
@@ -31,13 +31,10 @@ impl Tally {
         }
     }
 
-    pub(crate) fn print(self, name: &[u8]) {
-        print(name);
-        print(b": ");
-        io::print_decimal(STDOUT_FILENO, self.lines);
-        print(b" lines, ");
-        io::print_decimal(STDOUT_FILENO, self.differ);
-        print(b" differ\n");
+    pub(crate) fn print<P: Print>(self, rt: &P, name: &str) -> Result<()> {
+        let lines = self.lines;
+        let differ = self.differ;
+        println!(rt; "{name}: {lines} lines, {differ} differ")
     }
 }
 
@@ -46,26 +43,26 @@ fn one_more(n: u64) -> u64 {
     if n < u64::MAX { n + 1 } else { n }
 }
 
-pub(crate) fn print(text: &[u8]) {
-    io::write_all(STDOUT_FILENO, text);
+fn print<P: Print>(rt: &P, text: &[u8]) -> Result<()> {
+    rt.write_all(text)
 }
 
 // Prints a line that differs, and below it what was found; returns that it is not as recorded.
-fn differs(line: &[u8], label: &[u8], found: &[u8]) -> bool {
-    print(b"differs: ");
-    print(line);
-    print(b"\n    ");
-    print(label);
-    print(found);
-    print(b"\n");
-    false
+fn differs<P: Print>(rt: &P, line: &[u8], label: &[u8], found: &[u8]) -> Result<bool> {
+    print(rt, b"differs: ")?;
+    print(rt, line)?;
+    print(rt, b"\n    ")?;
+    print(rt, label)?;
+    print(rt, found)?;
+    print(rt, b"\n")?;
+    Ok(false)
 }
 
-fn compare(line: &[u8], recorded: &[u8], found: &[u8]) -> bool {
+fn compare<P: Print>(rt: &P, line: &[u8], recorded: &[u8], found: &[u8]) -> Result<bool> {
     if same(recorded, found) {
-        return true;
+        return Ok(true);
     }
-    differs(line, b"answer: ", found)
+    differs(rt, line, b"answer: ", found)
 }
 
 // The place of the first ` = `, or the line's length.
@@ -101,33 +98,42 @@ fn perform(request: &[u8], bytes: &mut [u8], out: &mut [u8], answer: &mut [u8]) 
 }
 
 // Is the answer to the line's request the recorded one? Where it is not, the line is printed.
-fn is_as_recorded(line: &[u8], bytes: &mut [u8], out: &mut [u8], answer: &mut [u8]) -> bool {
+fn is_as_recorded<P: Print>(
+    rt: &P,
+    line: &[u8],
+    bytes: &mut [u8],
+    out: &mut [u8],
+    answer: &mut [u8],
+) -> Result<bool> {
     let middle = find_equals(line);
     if middle == line.len() {
-        return differs(line, b"no answer is recorded", b"");
+        return differs(rt, line, b"no answer is recorded", b"");
     }
     match perform(front(line, middle), bytes, out, answer) {
-        Outcome::Answered(w) => compare(line, after(after(line, middle), 3), w.text(answer)),
-        Outcome::Unknown => differs(line, b"no such operation", b""),
-        Outcome::Malformed => differs(line, b"an argument is malformed", b""),
+        Outcome::Answered(w) => compare(rt, line, after(after(line, middle), 3), w.text(answer)),
+        Outcome::Unknown => differs(rt, line, b"no such operation", b""),
+        Outcome::Malformed => differs(rt, line, b"an argument is malformed", b""),
     }
 }
 
 // Replays a line that has a request, and counts it.
-pub(crate) fn replay_line(
+pub(crate) fn replay_line<P: Print>(
+    rt: &P,
     tally: Tally,
     line: &[u8],
     bytes: &mut [u8],
     out: &mut [u8],
     answer: &mut [u8],
-) -> Tally {
+) -> Result<Tally> {
     if is_skipped(line) {
-        return tally;
+        return Ok(tally);
     }
-    tally.with(is_as_recorded(line, bytes, out, answer))
+    let is_same = is_as_recorded(rt, line, bytes, out, answer)?;
+    Ok(tally.with(is_same))
 }
 
 // A line that does not fit its buffer differs, whatever its request.
-pub(crate) fn refuse_long(tally: Tally, line: &[u8]) -> Tally {
-    tally.with(differs(line, b"the line is too long", b""))
+pub(crate) fn refuse_long<P: Print>(rt: &P, tally: Tally, line: &[u8]) -> Result<Tally> {
+    let is_same = differs(rt, line, b"the line is too long", b"")?;
+    Ok(tally.with(is_same))
 }
