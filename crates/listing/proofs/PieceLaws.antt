@@ -4,8 +4,6 @@ use mathlib.Core.List.{List, [], ◌∷◌, ◌++◌}
 use Prim.Native.Nat.{ℕ, ◌+◌, ◌-◌, ◌*◌, ◌≤◌, ◌<◌, min}
 use native.Mathlib.Nat.{zero-add}
 use native.Mathlib.Omega.{arith}
-use types.Run.{OneOf, miss}
-use denote.Enum.Declared.{tag_of}
 use borrow.Rule.Slice.PartMut.{mid_of}
 use lib.ListN.{length, drop, length-append, length-drop}
 use lib.Seq.{sets, length-sets, take_all, drop-drop}
@@ -15,7 +13,6 @@ use Rattle.protocol.specs.declared.message.Answer.{Answer}
 use Rattle.frame.specs.declared.FrameHeader.{FrameHeader}
 use Rattle.frame.specs.declared.receiver.Outcome.{Outcome}
 use Rattle.frame.specs.declared.receiver.Outcome.TheVariants.{More, Handed, Stopped, Refused}
-use Rattle.frame.specs.contracts.receiver.Outcome as O
 use Rattle.frame.specs.declared.receiver.Stepped.{Stepped}
 use Rattle.frame.specs.Worlds.{World, Lent, editor}
 use Rattle.frame.specs.Reading.{frame, Run, done, after}
@@ -72,13 +69,13 @@ module _ (w : World) (p page : List ℕ) (at : ℕ) where
   from_handed h a e f = ap (λ (d : Driven). from d.run page at) (driving_handed editor w p [] h a e) ∙ from_after h a _ _ _ page at f
 
   -- any other outcome
-  from_last : (x : Outcome) → OneOf (0 ∷ 2 ∷ 3 ∷ []) (tag_of O.the_type x) → (offering editor w p).outcome ≡ x → at ≤ furthest
+  from_last : (x : Outcome) → ((h : FrameHeader) (a : Answer) → x ≡ Handed h a → ⊥) → (offering editor w p).outcome ≡ x → at ≤ furthest
       → from (run_of w p) page at ≡ record { world = (offering editor w p).world; last = last_by x (offering editor w p).world.receiver; len = at; page = page }
   unfolding from lines_of last_of plus after done later
   from_last More k e f =
       let n : declared (at + 0) ≡ at = omega arith in
       ap (λ (d : Driven). from d.run page at) (driving_more editor w p [] e) ∙ rw (driving_none, n)
-  from_last (Handed h a) k e f = absurd (miss (0 ∷ 2 ∷ 3 ∷ []) 1 tt k)
+  from_last (Handed h a) k e f = absurd (k h a refl)
   from_last (Stopped c) k e f = let n : declared (at + 0) ≡ at = omega arith in ap (λ (d : Driven). from d.run page at) (driving_stopped editor w p [] c e) ∙ rw n
   from_last (Refused c) k e f =
       let n : declared (at + 0) ≡ at = omega arith in
@@ -134,7 +131,7 @@ module _ {to : Listing} {piece : List ℕ} {w : World} {page : List ℕ} {at len
         }
 
   -- the end
-  pub go_end : {last : Last} → OneOf (0 ∷ 2 ∷ 3 ∷ []) (tag_of O.the_type o.outcome) → last ≡ last_by o.outcome (receiver_at table o.progress)
+  pub go_end : {last : Last} → ((h : FrameHeader) (a : Answer) → o.outcome ≡ Handed h a → ⊥) → last ≡ last_by o.outcome (receiver_at table o.progress)
       → (record { world = next; last = last; len = len; page = page } ≡ to) × (9 * len ≤ 84 * (length piece + 9))
   go_end k q =
       let i = g.within in

@@ -1,0 +1,6 @@
+use mathlib.Core.Path.{◌∙◌}
+use borrow.Author.Rules.{rules}
+use Rattle.gateway.proofs.answers.refused.Goals as goal
+
+pub returns : goal.returns
+returns c = c.given.ensures ∙ simp c.code_of.ensures

@@ -1,0 +1,6 @@
+use Rattle.gateway.proofs.EntryLaws.{put_told}
+use borrow.Author.Rules.{rules}
+use Rattle.gateway.proofs.fjord_put_u64.Goals as goal
+
+pub returns : goal.returns
+returns c = put_told c.tell.ensures _ _ c.encode_u64-written.ensures c.of_written.ensures

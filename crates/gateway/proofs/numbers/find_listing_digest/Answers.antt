@@ -1,0 +1,12 @@
+use borrow.Author.Tests.{lt-leb, le-leb}
+use Rattle.gateway.specs.Numbers.{is_message, message_from, message_of}
+use borrow.Author.Rules.{rules}
+use Rattle.gateway.proofs.numbers.find_listing_digest.Goals as goal
+
+pub returns-then-predicate-gt4294967295 : goal.returns-then-predicate-gt4294967295
+unfolding message_of message_from is_message
+returns-then-predicate-gt4294967295 c = simp (lt-leb _ _ c.if-predicate-gt4294967295.true)
+
+pub returns : goal.returns
+unfolding message_of message_from is_message
+returns c = simp (le-leb _ _ c.if-predicate-gt4294967295.false)

@@ -1,0 +1,25 @@
+use borrow.Author.Tests.{lt-leb, le-leb}
+use Rattle.gateway.specs.Numbers.{is_message, message_from, message_of}
+use Rattle.gateway.proofs.FieldLaws.{op_found}
+use borrow.Author.Rules.{rules}
+use Rattle.gateway.proofs.numbers.find_reply.Goals as goal
+
+pub returns-then-flag-gt1 : goal.returns-then-flag-gt1
+unfolding message_of message_from is_message
+returns-then-flag-gt1 c = simp (op_found _ c.byte_of.ensures c.from_byte.ensures c.in-Known.is, c.in-Finish.is, lt-leb _ _ c.if-flag-gt1.true)
+
+pub returns-in-Unknown : goal.returns-in-Unknown
+unfolding message_of message_from is_message
+returns-in-Unknown c = simp (op_found _ c.byte_of.ensures c.from_byte.ensures c.in-Unknown.is)
+
+pub returns-in-Create : goal.returns-in-Create
+unfolding message_of message_from is_message
+returns-in-Create c = simp (op_found _ c.byte_of.ensures c.from_byte.ensures c.in-Known.is, c.in-Create.is)
+
+pub returns-else-flag-gt1 : goal.returns-else-flag-gt1
+unfolding message_of message_from is_message
+returns-else-flag-gt1 c = simp (op_found _ c.byte_of.ensures c.from_byte.ensures c.in-Known.is, c.in-Finish.is, le-leb _ _ c.if-flag-gt1.false)
+
+pub returns-in-Remove : goal.returns-in-Remove
+unfolding message_of message_from is_message
+returns-in-Remove c = simp (op_found _ c.byte_of.ensures c.from_byte.ensures c.in-Known.is, c.in-Remove.is)

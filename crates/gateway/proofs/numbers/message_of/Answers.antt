@@ -1,0 +1,49 @@
+use borrow.Author.Tests.{ne_eqb}
+use Rattle.gateway.specs.Numbers.{is_message, message_from, message_of}
+use borrow.Author.Rules.{rules}
+use Rattle.gateway.proofs.numbers.message_of.Goals as goal
+
+pub returns-in-1 : goal.returns-in-1
+returns-in-1 c = simp (c.in-1.is, c.find_startup.ensures)
+
+pub returns-in-2 : goal.returns-in-2
+returns-in-2 c = simp (c.in-2.is, c.find_ready.ensures)
+
+pub returns-in-3 : goal.returns-in-3
+returns-in-3 c = simp (c.in-3.is, c.find_error.ensures)
+
+pub returns-in-4 : goal.returns-in-4
+unfolding message_of message_from is_message
+returns-in-4 c = simp c.in-4.is
+
+pub returns-in-5 : goal.returns-in-5
+unfolding message_of message_from is_message
+returns-in-5 c = simp c.in-5.is
+
+pub returns-in-6 : goal.returns-in-6
+unfolding message_of message_from is_message
+returns-in-6 c = simp c.in-6.is
+
+pub returns-in-7 : goal.returns-in-7
+returns-in-7 c = simp (c.in-7.is, c.find_control.ensures)
+
+pub returns-in-8 : goal.returns-in-8
+returns-in-8 c = simp (c.in-8.is, c.find_reply.ensures)
+
+pub returns-in-9 : goal.returns-in-9
+unfolding message_of message_from is_message
+returns-in-9 c = simp c.in-9.is
+
+pub returns-in-10 : goal.returns-in-10
+unfolding message_of message_from is_message
+returns-in-10 c = simp c.in-10.is
+
+pub returns-in-11 : goal.returns-in-11
+returns-in-11 c = simp (c.in-11.is, c.find_fetch.ensures)
+
+pub returns-in-12 : goal.returns-in-12
+returns-in-12 c = simp (c.in-12.is, c.find_listing_digest.ensures)
+
+pub returns-in_default : goal.returns-in_default
+unfolding message_of message_from is_message
+returns-in_default c = simp (ne_eqb _ _ c.in_default.in_default-own.rest.0.0.0.0.0.0.0.0.0.0.0.1, ne_eqb _ _ c.in_default.in_default-own.rest.0.0.0.0.0.0.0.0.0.0.1, ne_eqb _ _ c.in_default.in_default-own.rest.0.0.0.0.0.0.0.0.0.1, ne_eqb _ _ c.in_default.in_default-own.rest.0.0.0.0.0.0.0.0.1, ne_eqb _ _ c.in_default.in_default-own.rest.0.0.0.0.0.0.0.1, ne_eqb _ _ c.in_default.in_default-own.rest.0.0.0.0.0.0.1, ne_eqb _ _ c.in_default.in_default-own.rest.0.0.0.0.0.1, ne_eqb _ _ c.in_default.in_default-own.rest.0.0.0.0.1, ne_eqb _ _ c.in_default.in_default-own.rest.0.0.0.1, ne_eqb _ _ c.in_default.in_default-own.rest.0.0.1, ne_eqb _ _ c.in_default.in_default-own.rest.0.1, ne_eqb _ _ c.in_default.in_default-own.rest.1)
