@@ -43,7 +43,7 @@ fn one_more(n: u64) -> u64 {
     if n < u64::MAX { n + 1 } else { n }
 }
 
-fn print<P: Print>(rt: &P, text: &[u8]) -> Result<()> {
+pub(crate) fn print<P: Print>(rt: &P, text: &[u8]) -> Result<()> {
     rt.write_all(text)
 }
 
