@@ -25,45 +25,45 @@ returns-then-not-node_fits t c =
     emit_unfit [] a.nodes.now a.depth a.n a.parent (nowhere a.at) [] c.if-depth-eq0.false c.node_fits.ensures c.if-not-node_fits.true
 
 pub overflow_mul-k : goal.overflow_mul-k
-overflow_mul-k t c = let f = fits_inside c.args.nodes.now c.args.n c.args.parent c.node_fits.ensures c.if-not-node_fits.false in omega arith
+overflow_mul-k t c = omega (arith, fits_inside c.args.nodes.now c.args.n c.args.parent c.node_fits.ensures c.if-not-node_fits.false)
 
 pub overflow_add-tag : goal.overflow_add-tag
-overflow_add-tag t c = let f = fits_inside c.args.nodes.now c.args.n c.args.parent c.node_fits.ensures c.if-not-node_fits.false in omega arith
+overflow_add-tag t c = omega (arith, fits_inside c.args.nodes.now c.args.n c.args.parent c.node_fits.ensures c.if-not-node_fits.false)
 
 pub offset_bounds-nodes-k : goal.offset_bounds-nodes-k
-offset_bounds-nodes-k t c = let f = fits_inside c.args.nodes.now c.args.n c.args.parent c.node_fits.ensures c.if-not-node_fits.false in omega arith
+offset_bounds-nodes-k t c = omega (arith, fits_inside c.args.nodes.now c.args.n c.args.parent c.node_fits.ensures c.if-not-node_fits.false)
 
 pub bounds-nodes-k : goal.bounds-nodes-k
-bounds-nodes-k t c = let f = (let it : let a = c.args in (a.n < length a.nodes.now / 7) × (length a.nodes.now * 8 < 9223372036854775808) = let a = c.args in (fits_inside a.nodes.now a.n a.parent c.node_fits.ensures c.if-not-node_fits.false, c.well_formed.0.1) in it) in omega arith
+bounds-nodes-k t c = omega (arith, fits_inside c.args.nodes.now c.args.n c.args.parent c.node_fits.ensures c.if-not-node_fits.false, c.well_formed.0.1)
 
 pub overflow_add-k : goal.overflow_add-k
-overflow_add-k t c = let f = (let it : let a = c.args in (a.n < length a.nodes.now / 7) × (length a.nodes.now * 8 < 9223372036854775808) = let a = c.args in (fits_inside a.nodes.now a.n a.parent c.node_fits.ensures c.if-not-node_fits.false, c.well_formed.0.1) in it) in omega arith
+overflow_add-k t c = omega (arith, fits_inside c.args.nodes.now c.args.n c.args.parent c.node_fits.ensures c.if-not-node_fits.false, c.well_formed.0.1)
 
 pub offset_bounds-nodes-k-then-not-is_branch : goal.offset_bounds-nodes-k-then-not-is_branch
-offset_bounds-nodes-k-then-not-is_branch t c = let f = (let it : let a = c.args in (a.n < length a.nodes.now / 7) × (length a.nodes.now * 8 < 9223372036854775808) = let a = c.args in (fits_inside a.nodes.now a.n a.parent c.node_fits.ensures c.if-not-node_fits.false, c.well_formed.0.1) in it) in omega arith
+offset_bounds-nodes-k-then-not-is_branch t c = omega (arith, fits_inside c.args.nodes.now c.args.n c.args.parent c.node_fits.ensures c.if-not-node_fits.false, c.well_formed.0.1)
 
 pub bounds-nodes-k-then-not-is_branch : goal.bounds-nodes-k-then-not-is_branch
-bounds-nodes-k-then-not-is_branch t c = let f = (let it : let a = c.args in (a.n < length a.nodes.now / 7) × (length a.nodes.now * 8 < 9223372036854775808) = let a = c.args in (fits_inside a.nodes.now a.n a.parent c.node_fits.ensures c.if-not-node_fits.false, c.well_formed.0.1) in it) in omega arith
+bounds-nodes-k-then-not-is_branch t c = omega (arith, fits_inside c.args.nodes.now c.args.n c.args.parent c.node_fits.ensures c.if-not-node_fits.false, c.well_formed.0.1)
 
 pub overflow_add-result : goal.overflow_add-result
-overflow_add-result t c = let f = (let it : let a = c.args in (a.n < length a.nodes.now / 7) × (length a.nodes.now * 8 < 9223372036854775808) = let a = c.args in (fits_inside a.nodes.now a.n a.parent c.node_fits.ensures c.if-not-node_fits.false, c.well_formed.0.1) in it) in omega arith
+overflow_add-result t c = omega (arith, fits_inside c.args.nodes.now c.args.n c.args.parent c.node_fits.ensures c.if-not-node_fits.false, c.well_formed.0.1)
 
 pub returns-then-not-is_branch : goal.returns-then-not-is_branch
 returns-then-not-is_branch t c =
     let a = c.args in
-    emit_leaf [] a.nodes.now a.depth a.n a.parent (nowhere a.at) [] _ _ _ (node_leaf a.nodes.now a.depth a.n a.parent c.if-depth-eq0.false c.node_fits.ensures c.if-not-node_fits.false c.is_branch.ensures c.if-not-is_branch.true) (c.past_where-place.ensures ∙ ap (put_where (eqb (cell a.nodes.now a.n 0) 2) (cell a.nodes.now a.n 4)) (let it : let a = c.args in nowhere c.plus-past.result ≡ put_number (cell a.nodes.now a.n 0) (nowhere a.at) = let a = c.args in tag_gauged a.at _ a.nodes.now a.n a.parent c.node_fits.ensures c.if-not-node_fits.false c.plus-past.ensures in it))
+    emit_leaf [] a.nodes.now a.depth a.n a.parent (nowhere a.at) [] _ _ _ (node_leaf a.nodes.now a.depth a.n a.parent c.if-depth-eq0.false c.node_fits.ensures c.if-not-node_fits.false c.is_branch.ensures c.if-not-is_branch.true) (c.past_where-place.ensures ∙ ap (put_where (eqb (cell a.nodes.now a.n 0) 2) (cell a.nodes.now a.n 4)) (tag_gauged a.at _ a.nodes.now a.n a.parent c.node_fits.ensures c.if-not-node_fits.false c.plus-past.ensures))
 
 pub overflow_add-count : goal.overflow_add-count
-overflow_add-count t c = let f = (let it : let a = c.args in (a.n < length a.nodes.now / 7) × (length a.nodes.now * 8 < 9223372036854775808) = let a = c.args in (fits_inside a.nodes.now a.n a.parent c.node_fits.ensures c.if-not-node_fits.false, c.well_formed.0.1) in it) in omega arith
+overflow_add-count t c = omega (arith, fits_inside c.args.nodes.now c.args.n c.args.parent c.node_fits.ensures c.if-not-node_fits.false, c.well_formed.0.1)
 
 pub offset_bounds-nodes-k-2 : goal.offset_bounds-nodes-k-2
-offset_bounds-nodes-k-2 t c = let f = (let it : let a = c.args in (a.n < length a.nodes.now / 7) × (length a.nodes.now * 8 < 9223372036854775808) = let a = c.args in (fits_inside a.nodes.now a.n a.parent c.node_fits.ensures c.if-not-node_fits.false, c.well_formed.0.1) in it) in omega arith
+offset_bounds-nodes-k-2 t c = omega (arith, fits_inside c.args.nodes.now c.args.n c.args.parent c.node_fits.ensures c.if-not-node_fits.false, c.well_formed.0.1)
 
 pub bounds-nodes-k-2 : goal.bounds-nodes-k-2
-bounds-nodes-k-2 t c = let f = (let it : let a = c.args in (a.n < length a.nodes.now / 7) × (length a.nodes.now * 8 < 9223372036854775808) = let a = c.args in (fits_inside a.nodes.now a.n a.parent c.node_fits.ensures c.if-not-node_fits.false, c.well_formed.0.1) in it) in omega arith
+bounds-nodes-k-2 t c = omega (arith, fits_inside c.args.nodes.now c.args.n c.args.parent c.node_fits.ensures c.if-not-node_fits.false, c.well_formed.0.1)
 
 pub overflow_add-m : goal.overflow_add-m
-overflow_add-m t c = let f = (let it : let a = c.args in (a.n < length a.nodes.now / 7) × (length a.nodes.now * 8 < 9223372036854775808) = let a = c.args in (fits_inside a.nodes.now a.n a.parent c.node_fits.ensures c.if-not-node_fits.false, c.well_formed.0.1) in it) in omega arith
+overflow_add-m t c = omega (arith, fits_inside c.args.nodes.now c.args.n c.args.parent c.node_fits.ensures c.if-not-node_fits.false, c.well_formed.0.1)
 
 pub loop-i-init : goal.loop-i-init
 loop-i-init t c = (omega arith, rw sub-zero refl)
@@ -72,13 +72,13 @@ pub returns-then-nodes-m : goal.returns-then-nodes-m
 returns-then-nodes-m t c =
     let a = c.args in
     let l = c.loop-i in
-    emit_stopped [] a.nodes.now a.depth a.n a.parent (nowhere a.at) [] _ _ (let it : let a = c.args in let tag = cell a.nodes.now a.n 0 in table a.depth a.nodes.now a.n a.parent ≡ closed_at tag (cell a.nodes.now a.n 6) (kids_at (table (a.depth - 1) a.nodes.now) a.nodes.now tag (cell a.nodes.now a.n 5) (a.n + 1)) = let a = c.args in node_branch a.nodes.now a.depth a.n a.parent c.if-depth-eq0.false c.node_fits.ensures c.if-not-node_fits.false c.is_branch.ensures c.if-not-is_branch.false in it) _ (l.invariant.1 ∙ turn_outside (a.depth - 1) [] a.nodes.now _ _ l.i l.m (nowhere l.a) c.loop-i-test.true c.if-nodes-m.true)
+    emit_stopped [] a.nodes.now a.depth a.n a.parent (nowhere a.at) [] _ _ (node_branch a.nodes.now a.depth a.n a.parent c.if-depth-eq0.false c.node_fits.ensures c.if-not-node_fits.false c.is_branch.ensures c.if-not-is_branch.false) _ (l.invariant.1 ∙ turn_outside (a.depth - 1) [] a.nodes.now _ _ l.i l.m (nowhere l.a) c.loop-i-test.true c.if-nodes-m.true)
 
 pub returns-in-Wrong : goal.returns-in-Wrong
 returns-in-Wrong t c =
     let a = c.args in
     let l = c.loop-i in
-    emit_stopped [] a.nodes.now a.depth a.n a.parent (nowhere a.at) [] _ _ (let it : let a = c.args in let tag = cell a.nodes.now a.n 0 in table a.depth a.nodes.now a.n a.parent ≡ closed_at tag (cell a.nodes.now a.n 6) (kids_at (table (a.depth - 1) a.nodes.now) a.nodes.now tag (cell a.nodes.now a.n 5) (a.n + 1)) = let a = c.args in node_branch a.nodes.now a.depth a.n a.parent c.if-depth-eq0.false c.node_fits.ensures c.if-not-node_fits.false c.is_branch.ensures c.if-not-is_branch.false in it) _ (l.invariant.1 ∙ turn_wrong (table (a.depth - 1) a.nodes.now) [] a.nodes.now _ _ l.i l.m (nowhere l.a) _ _ [] c.loop-i-test.true c.past_label-named.ensures c.gauge.ensures c.in-Wrong.is)
+    emit_stopped [] a.nodes.now a.depth a.n a.parent (nowhere a.at) [] _ _ (node_branch a.nodes.now a.depth a.n a.parent c.if-depth-eq0.false c.node_fits.ensures c.if-not-node_fits.false c.is_branch.ensures c.if-not-is_branch.false) _ (l.invariant.1 ∙ turn_wrong (table (a.depth - 1) a.nodes.now) [] a.nodes.now _ _ l.i l.m (nowhere l.a) _ _ [] c.loop-i-test.true c.past_label-named.ensures c.gauge.ensures c.in-Wrong.is)
 
 pub overflow_add-i : goal.overflow_add-i
 overflow_add-i t c = omega (arith, c.type_inv.nodes (c.args.n * 7 + 5))
@@ -90,17 +90,17 @@ loop-i-preserved t c =
     (omega arith, l.invariant.1 ∙ turn_done (table (a.depth - 1) a.nodes.now) [] a.nodes.now _ _ l.i l.m (nowhere l.a) _ _ [] c.loop-i-test.true c.past_label-named.ensures c.gauge.ensures _ _ c.in-Done.is)
 
 pub overflow_add-k-2 : goal.overflow_add-k-2
-overflow_add-k-2 t c = let f = (let it : let a = c.args in (a.n < length a.nodes.now / 7) × (length a.nodes.now * 8 < 9223372036854775808) = let a = c.args in (fits_inside a.nodes.now a.n a.parent c.node_fits.ensures c.if-not-node_fits.false, c.well_formed.0.1) in it) in omega arith
+overflow_add-k-2 t c = omega (arith, fits_inside c.args.nodes.now c.args.n c.args.parent c.node_fits.ensures c.if-not-node_fits.false, c.well_formed.0.1)
 
 pub offset_bounds-nodes-k-3 : goal.offset_bounds-nodes-k-3
-offset_bounds-nodes-k-3 t c = let f = (let it : let a = c.args in (a.n < length a.nodes.now / 7) × (length a.nodes.now * 8 < 9223372036854775808) = let a = c.args in (fits_inside a.nodes.now a.n a.parent c.node_fits.ensures c.if-not-node_fits.false, c.well_formed.0.1) in it) in omega arith
+offset_bounds-nodes-k-3 t c = omega (arith, fits_inside c.args.nodes.now c.args.n c.args.parent c.node_fits.ensures c.if-not-node_fits.false, c.well_formed.0.1)
 
 pub bounds-nodes-k-3 : goal.bounds-nodes-k-3
-bounds-nodes-k-3 t c = let f = (let it : let a = c.args in (a.n < length a.nodes.now / 7) × (length a.nodes.now * 8 < 9223372036854775808) = let a = c.args in (fits_inside a.nodes.now a.n a.parent c.node_fits.ensures c.if-not-node_fits.false, c.well_formed.0.1) in it) in omega arith
+bounds-nodes-k-3 t c = omega (arith, fits_inside c.args.nodes.now c.args.n c.args.parent c.node_fits.ensures c.if-not-node_fits.false, c.well_formed.0.1)
 
 pub returns : goal.returns
 unfolding put_where
 returns t c =
     let a = c.args in
     let l = c.loop-i in
-    emit_closed [] a.nodes.now a.depth a.n a.parent (nowhere a.at) [] _ _ (let it : let a = c.args in let tag = cell a.nodes.now a.n 0 in table a.depth a.nodes.now a.n a.parent ≡ closed_at tag (cell a.nodes.now a.n 6) (kids_at (table (a.depth - 1) a.nodes.now) a.nodes.now tag (cell a.nodes.now a.n 5) (a.n + 1)) = let a = c.args in node_branch a.nodes.now a.depth a.n a.parent c.if-depth-eq0.false c.node_fits.ensures c.if-not-node_fits.false c.is_branch.ensures c.if-not-is_branch.false in it) _ l.i l.m l.a c.loop-i-test.false l.invariant.1 _ (c.past_number-a.ensures ∙ ap (put_number (cell a.nodes.now a.n 5)) (let it : let a = c.args in nowhere c.plus-past.result ≡ put_number (cell a.nodes.now a.n 0) (nowhere a.at) = let a = c.args in tag_gauged a.at _ a.nodes.now a.n a.parent c.node_fits.ensures c.if-not-node_fits.false c.plus-past.ensures in it)) c.closed.ensures
+    emit_closed [] a.nodes.now a.depth a.n a.parent (nowhere a.at) [] _ _ (node_branch a.nodes.now a.depth a.n a.parent c.if-depth-eq0.false c.node_fits.ensures c.if-not-node_fits.false c.is_branch.ensures c.if-not-is_branch.false) _ l.i l.m l.a c.loop-i-test.false l.invariant.1 _ (c.past_number-a.ensures ∙ ap (put_number (cell a.nodes.now a.n 5)) (tag_gauged a.at _ a.nodes.now a.n a.parent c.node_fits.ensures c.if-not-node_fits.false c.plus-past.ensures)) c.closed.ensures
