@@ -59,7 +59,8 @@ fn walk(
     requires { t + n ≤ at }
     ensures { Agrees (outcome (desc check limit depth s.now at) text.old t nodes.old n (start, len) discriminant) (length s.now) result text.new nodes.new }
 {
-    if depth == 0 {
+    let too_deep = depth == 0;
+    if too_deep {
         return Walked::Refused(Refusal::TooDeep(limit));
     }
     match read_head(s, at) {
@@ -221,7 +222,8 @@ fn decode_within(
             text: t,
             nodes: m,
         } => {
-            if text.len() < t {
+            let short = text.len() < t;
+            if short {
                 return DescAnswer::Refused(Refusal::TooSmall {
                     which: Buffer::Text,
                     needed: t as u64,

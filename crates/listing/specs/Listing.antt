@@ -10,7 +10,6 @@ use Rattle.protocol.specs.Decoding.{decode_message, settled, fitted}
 use Rattle.protocol.specs.Ready.{read_ready, lay_ready}
 use Rattle.protocol.specs.Said.{read_message, read_entry, lay}
 use Rattle.frame.specs.declared.receiver.Receiver.{Receiver}
-use Rattle.frame.specs.declared.receiver.Outcome.TheVariants as O
 use Rattle.frame.specs.Frames.{kind_of, stream_of, length_of}
 use Rattle.frame.specs.Worlds.{World, Lent, editor, receiver_of, running, pad}
 use Rattle.frame.specs.Reading.{Event, frame, halt, denied, Run, done, after, judge, decoded_kind, reading}

@@ -387,7 +387,8 @@ fn check_fetch(limit: u64, text: &[u8], rows: &[u64], nodes: &[u64], count: u64)
     match check_rows(RowKind::Pair, limit, text, rows, nodes, count) {
         Names::Refused(e) => Names::Refused(e),
         Names::Good => {
-            if Message::MAX_FETCH < count {
+            let too_many = Message::MAX_FETCH < count;
+            if too_many {
                 return Names::Refused(Refusal::BlockTooLarge {
                     declared: count,
                     max: Message::MAX_FETCH,

@@ -123,7 +123,8 @@ fn get_long(s: &[u8], at: usize) -> ReadU64
         }
         if b < 128 {
             if b == 0 {
-                if 0 < i {
+                let padded = 0 < i;
+                if padded {
                     return ReadU64::Refused(Refusal::VarintNotMinimal);
                 }
             }

@@ -31,7 +31,8 @@ pub fn unzigzag(bits: u64) -> i64
     ensures { result ≡ unzig bits }
 {
     let half = (bits / 2) as i64;
-    if bits % 2 == 0 { half } else { !half }
+    let even = bits % 2 == 0;
+    if even { half } else { !half }
 }
 
 // The zigzag varint at place `at` of `s`.

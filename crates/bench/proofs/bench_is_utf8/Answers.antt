@@ -1,4 +1,3 @@
-use borrow.Author.Rules.{rules}
 use mathlib.Core.Path.{◌∙◌}
 use Rattle.varint.proofs.Utf8Laws.{utf8_at_all}
 use Rattle.bench.proofs.bench_is_utf8.Goals as goal

@@ -10,10 +10,10 @@ returns-then-max-length c =
     let a = c.args in
     decode_large a.text.now a.rows.now a.nodes.now a.max a.limit a.payload.now c.if-max-length.true
 
-pub returns-then-text-t : goal.returns-then-text-t
-returns-then-text-t c =
+pub returns-then-short : goal.returns-then-short
+returns-then-short c =
     let a = c.args in
-    decode_text a.text.now a.rows.now a.nodes.now a.max a.limit a.payload.now _ _ _ c.if-max-length.false (sym c.measure_desc.ensures ∙ c.in-Read.is) c.if-text-t.true
+    decode_text a.text.now a.rows.now a.nodes.now a.max a.limit a.payload.now _ _ _ c.if-max-length.false (sym c.measure_desc.ensures ∙ c.in-Read.is) c.if-short.true
 
 pub overflow_mul-numbers : goal.overflow_mul-numbers
 overflow_mul-numbers c =
@@ -24,12 +24,12 @@ overflow_mul-numbers c =
 pub returns-then-nodes-numbers : goal.returns-then-nodes-numbers
 returns-then-nodes-numbers c =
     let a = c.args in
-    decode_nodes a.text.now a.rows.now a.nodes.now a.max a.limit a.payload.now _ _ _ c.if-max-length.false (sym c.measure_desc.ensures ∙ c.in-Read.is) c.if-text-t.false c.if-nodes-numbers.true
+    decode_nodes a.text.now a.rows.now a.nodes.now a.max a.limit a.payload.now _ _ _ c.if-max-length.false (sym c.measure_desc.ensures ∙ c.in-Read.is) c.if-short.false c.if-nodes-numbers.true
 
 pub returns-else-nodes-numbers : goal.returns-else-nodes-numbers
 returns-else-nodes-numbers c =
     let a = c.args in
-    decode_done a.text.now a.rows.now a.nodes.now a.max a.limit a.payload.now _ _ _ _ _ _ _ _ _ _ c.if-max-length.false (sym c.measure_desc.ensures ∙ c.in-Read.is) c.if-text-t.false c.if-nodes-numbers.false c.walk.ensures c.clear_bytes.ensures c.clear_numbers.ensures c.clear_numbers-in-Read.ensures
+    decode_done a.text.now a.rows.now a.nodes.now a.max a.limit a.payload.now _ _ _ _ _ _ _ _ _ _ c.if-max-length.false (sym c.measure_desc.ensures ∙ c.in-Read.is) c.if-short.false c.if-nodes-numbers.false c.walk.ensures c.clear_bytes.ensures c.clear_numbers.ensures c.clear_numbers-in-Read.ensures
 
 pub returns-in-Refused : goal.returns-in-Refused
 returns-in-Refused c =

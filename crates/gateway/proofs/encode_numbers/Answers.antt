@@ -1,5 +1,4 @@
 use Rattle.gateway.proofs.EntryLaws.{encode_known, encode_unknown}
-use borrow.Author.Rules.{rules}
 use Rattle.gateway.proofs.encode_numbers.Goals as goal
 
 pub returns-in-Known : goal.returns-in-Known

@@ -1,5 +1,4 @@
 use mathlib.Core.Path.{sym, ◌∙◌}
-use borrow.Author.Rules.{rules}
 use Rattle.gateway.proofs.fault_in.Goals as goal
 
 pub returns-then-few_rows : goal.returns-then-few_rows

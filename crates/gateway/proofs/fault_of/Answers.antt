@@ -1,4 +1,4 @@
-use borrow.Author.Tests.{ne_eqb}
+use Rattle.std.proofs.Common.{tests, rules}
 use borrow.Author.Rules.{rules}
 use Rattle.gateway.proofs.fault_of.Goals as goal
 
@@ -9,4 +9,4 @@ pub returns-in-11 : goal.returns-in-11
 returns-in-11 c = simp (c.in-11.is, c.fault_in-in-11.ensures)
 
 pub returns-in_default : goal.returns-in_default
-returns-in_default c = simp (ne_eqb _ _ c.in_default.in_default-own.rest.0.1, ne_eqb _ _ c.in_default.in_default-own.rest.1)
+returns-in_default c = search (tests, rules)

@@ -1,5 +1,4 @@
 use Rattle.gateway.proofs.EntryLaws.{message_told}
-use borrow.Author.Rules.{rules}
 use Rattle.gateway.proofs.fjord_decode.Goals as goal
 
 pub returns : goal.returns

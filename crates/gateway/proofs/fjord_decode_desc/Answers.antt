@@ -1,6 +1,5 @@
 use Rattle.gateway.specs.Entries.{decode_desc_call}
 use Rattle.gateway.proofs.EntryLaws.{desc_told}
-use borrow.Author.Rules.{rules}
 use Rattle.gateway.proofs.fjord_decode_desc.Goals as goal
 
 pub returns : goal.returns

@@ -1,6 +1,5 @@
 use Rattle.gateway.specs.Entries.{encode_call}
 use Rattle.gateway.proofs.EntryLaws.{sent_told}
-use borrow.Author.Rules.{rules}
 use Rattle.gateway.proofs.fjord_encode.Goals as goal
 
 pub returns : goal.returns

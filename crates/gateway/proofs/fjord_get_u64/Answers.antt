@@ -1,5 +1,4 @@
 use Rattle.gateway.proofs.EntryLaws.{get_told}
-use borrow.Author.Rules.{rules}
 use Rattle.gateway.proofs.fjord_get_u64.Goals as goal
 
 pub returns : goal.returns

@@ -1,5 +1,4 @@
 use borrow.Author.Tests.{le-leb, lt-leb}
-use borrow.Author.Rules.{rules}
 use Rattle.gateway.proofs.named.Goals as goal
 
 pub returns-then-entry-gt12 : goal.returns-then-entry-gt12

@@ -7,7 +7,6 @@ use lib.ListN.{length}
 use lib.Seq.{sets}
 use Rattle.listing.specs.Lines.{line_of}
 use Rattle.listing.proofs.PageLaws.{sets_past, sets_part}
-use borrow.Author.Rules.{rules}
 use Rattle.listing.proofs.add_line.Goals as goal
 
 -- a line in the part of the page from `from` on

@@ -1,4 +1,3 @@
-use borrow.Author.Rules.{rules}
 use Rattle.listing.proofs.last_of.Goals as goal
 
 pub returns-in-More : goal.returns-in-More

@@ -1,11 +1,9 @@
 use mathlib.Core.Path.{◌≡◌}
-use Prim.Native.Nat.{◌+◌, ◌-◌, ◌*◌, ◌^◌, ◌≤◌, ◌<◌}
+use Prim.Native.Nat.{◌*◌, ◌^◌, ◌≤◌, ◌<◌}
 use native.Mathlib.Omega.{arith}
 use lib.ListN.{length}
 use borrow.Author.Rules.{rules}
-use Rattle.frame.specs.Offering.{world_of, receiver_at}
-use Rattle.listing.specs.Listing.{listed}
-use Rattle.listing.proofs.PieceLaws.{furthest, run_of, Going, go_start, go_used, go_on, go_end}
+use Rattle.listing.proofs.PieceLaws.{furthest, go_start, go_used, go_on, go_end}
 use Rattle.listing.proofs.list_piece.Goals as goal
 
 pub loop-header-init : goal.loop-header-init

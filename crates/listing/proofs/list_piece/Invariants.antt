@@ -1,11 +1,9 @@
 use mathlib.Core.Path.{◌≡◌}
-use Prim.Native.Nat.{◌+◌, ◌-◌, ◌*◌, ◌^◌, ◌≤◌, ◌<◌}
-use native.Mathlib.Omega.{arith}
+use Prim.Native.Nat.{◌-◌}
 use lib.ListN.{length}
-use borrow.Author.Rules.{rules}
 use Rattle.frame.specs.Offering.{world_of, receiver_at}
 use Rattle.listing.specs.Listing.{listed}
-use Rattle.listing.proofs.PieceLaws.{furthest, run_of, Going, go_start, go_used, go_on, go_end}
+use Rattle.listing.proofs.PieceLaws.{run_of, Going}
 use Rattle.listing.proofs.list_piece.Given as goal
 
 -- `list_piece` meets its contract: what is left of the piece leads to the same end at each turn, and its length falls.

@@ -6,7 +6,6 @@ use lib.ListN.{length, set, length-append}
 use lib.Seq.{sets}
 use Rattle.listing.specs.Lines.{decimal, column}
 use Rattle.listing.proofs.LineLaws.{Stored, stored_more, decimal_length_64}
-use borrow.Author.Rules.{rules}
 use Rattle.listing.proofs.put_column.Goals as goal
 
 ended : (n end at k : ℕ) (d : List ℕ) {d₁ d₂ : List ℕ} → n < 2 ^ 64 → k ≡ length (decimal n) → d₁ ≡ sets d at (decimal n) → d₂ ≡ set d₁ (at + k) end

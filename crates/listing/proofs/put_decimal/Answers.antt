@@ -9,7 +9,6 @@ use Rattle.varint.specs.Stores.{part}
 use Rattle.varint.proofs.StoreLaws.{part_all}
 use Rattle.listing.specs.Lines.{decimal}
 use Rattle.listing.proofs.LineLaws.{digits_decimal}
-use borrow.Author.Rules.{rules}
 use Rattle.listing.proofs.put_decimal.Goals as goal
 
 copied : (n at k : ℕ) (s d : List ℕ) {d₁ : List ℕ} → IsPrefixLen k s → IsDigitCount 10 1 n k → take k s ≡ last_digits 10 k n → d₁ ≡ sets d at (part (take k s) 0 k)

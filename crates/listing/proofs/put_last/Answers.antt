@@ -8,7 +8,6 @@ use Rattle.varint.specs.Stores.{part}
 use Rattle.varint.proofs.StoreLaws.{part_all}
 use Rattle.listing.specs.Lines.{column, held_word, stopped_word, last_line}
 use Rattle.listing.proofs.LineLaws.{Stored, stored_more}
-use borrow.Author.Rules.{rules}
 use Rattle.listing.proofs.put_last.Goals as goal
 
 -- a word, and the number behind it

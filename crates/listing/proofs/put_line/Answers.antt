@@ -6,7 +6,6 @@ use lib.ListN.{length}
 use lib.Seq.{sets}
 use Rattle.listing.specs.Lines.{column, line_of}
 use Rattle.listing.proofs.LineLaws.{Stored, stored_more}
-use borrow.Author.Rules.{rules}
 use Rattle.listing.proofs.put_line.Goals as goal
 
 -- four columns, one after the other

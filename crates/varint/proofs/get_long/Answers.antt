@@ -8,7 +8,7 @@ use Rattle.varint.specs.Leb128.{read_from}
 use Rattle.varint.proofs.ReadLaws.{tenth_zero, tenth_one, tenth_more, last_zero, last_first, last_more, read_end, weight_9}
 use Rattle.varint.proofs.ByteLoop.{going_start, going_fits, going_at, going_more}
 use Rattle.varint.proofs.get_long.Goals as goal
-use Rattle.varint.proofs.get_long.Goals.{then-b-eq0-2+else-i-gt0, else-b-eq0-2}
+use Rattle.varint.proofs.get_long.Goals.{then-b-eq0-2+else-padded, else-b-eq0-2}
 
 pub loop-p-init : goal.loop-p-init
 loop-p-init c = going_start _ _
@@ -34,8 +34,8 @@ pub returns-then-i-eq9 : goal.returns-then-i-eq9
 returns-then-i-eq9 c =
     sym (going_at c.loop-p.invariant c.loop-p-test.true c.wide-b.ensures ∙ tenth_more _ _ _ _ _ (omega (arith, c.type_inv.s c.loop-p.p)) (omega arith) c.if-i-eq9.true)
 
-pub returns-then-i-gt0 : goal.returns-then-i-gt0
-returns-then-i-gt0 c = sym (going_at c.loop-p.invariant c.loop-p-test.true c.wide-b.ensures ∙ last_zero _ _ _ _ _ c.if-b-eq0-2.true c.if-i-gt0.true (omega arith))
+pub returns-then-padded : goal.returns-then-padded
+returns-then-padded c = sym (going_at c.loop-p.invariant c.loop-p-test.true c.wide-b.ensures ∙ last_zero _ _ _ _ _ c.if-b-eq0-2.true c.if-padded.true (omega arith))
 
 pub overflow_mul-result : goal.overflow_mul-result
 overflow_mul-result c = omega (arith, going_fits c.loop-p.invariant _ c.if-b-lt128.true c.if-i-eq9.false)
@@ -54,7 +54,7 @@ returns-then-b-lt128 c =
     let lt : b < 128 = c.if-b-lt128.true in
     let answer : read_from (b ∷ rest) l.p l.i l.value ≡ Value (l.value + b * 128 ^ l.i) (l.p + 1) =
     elim c.if-b-eq0-2.branch [
-      | then-b-eq0-2+else-i-gt0 w ↦ last_first b rest l.p l.i l.value (omega (arith, w.if-i-gt0.false)) lt
+      | then-b-eq0-2+else-padded w ↦ last_first b rest l.p l.i l.value (omega (arith, w.if-padded.false)) lt
       | else-b-eq0-2 w ↦ last_more b rest l.p l.i l.value lt (omega (arith, w.if-b-eq0-2.false)) (omega arith)
     ] in
     sym (going_at c.loop-p.invariant c.loop-p-test.true c.wide-b.ensures ∙ answer ∙ rw l.invariant.power)

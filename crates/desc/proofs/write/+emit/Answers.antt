@@ -1,12 +1,10 @@
-use mathlib.Core.Path.{◌≡◌, refl, ◌∙◌}
-use Prim.Native.Nat.{◌-◌, ◌+◌, ◌*◌, ◌/◌, ◌<◌}
+use mathlib.Core.Path.{refl, ◌∙◌}
+use Prim.Native.Nat.{◌-◌, ◌+◌, ◌*◌}
 use native.Mathlib.Omega.{arith}
 use native.Mathlib.Nat.{sub-zero}
-use lib.ListN.{length}
-use Rattle.desc.specs.Table.{cell, kids_at, closed_at, table}
+use Rattle.desc.specs.Table.{table}
 use Rattle.desc.proofs.EmitLaws.{turn_done, turn_wrong, turn_outside, node_leaf, node_branch, emit_deep, emit_unfit, emit_leaf, emit_stopped, emit_closed}
 use Rattle.desc.proofs.TableCells.{fits_inside}
-use Prim.Native.Nat.{◌<◌}
 use Rattle.desc.proofs.write.+emit.Goals as goal
 
 pub returns-then-depth-eq0 : goal.returns-then-depth-eq0

@@ -1,5 +1,4 @@
 use mathlib.Core.Path.{◌∙◌}
-use borrow.Author.Rules.{rules}
 use Rattle.gateway.proofs.answers.of_number.Goals as goal
 
 pub returns-in-Value : goal.returns-in-Value

@@ -1,5 +1,4 @@
 use Rattle.gateway.proofs.EntryLaws.{accepted_told, refused_told}
-use borrow.Author.Rules.{rules}
 use Rattle.gateway.proofs.answers.tell_message.Goals as goal
 
 pub returns-in-Accepted : goal.returns-in-Accepted

@@ -3,7 +3,6 @@ use native.Mathlib.Omega.{arith}
 use lib.ListN.{length-set}
 use Rattle.varint.specs.Stores.{part}
 use Rattle.frame.proofs.ReceiverSteps.{copied_whole}
-use borrow.Author.Rules.{rules}
 use Rattle.gateway.proofs.answers.write_answer.Goals as goal
 
 pub bounds-answer-4 : goal.bounds-answer-4

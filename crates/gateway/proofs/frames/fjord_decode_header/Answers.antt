@@ -1,5 +1,4 @@
 use Rattle.gateway.proofs.FrameEntryLaws.{header_told}
-use borrow.Author.Rules.{rules}
 use Rattle.gateway.proofs.frames.fjord_decode_header.Goals as goal
 
 pub returns : goal.returns

@@ -1,5 +1,4 @@
 use Rattle.gateway.proofs.FrameEntryLaws.{frame_sent}
-use borrow.Author.Rules.{rules}
 use Rattle.gateway.proofs.frames.fjord_encode_frame.Goals as goal
 
 pub returns : goal.returns

@@ -1,5 +1,4 @@
 use Rattle.gateway.proofs.FrameEntryLaws.{slot_told}
-use borrow.Author.Rules.{rules}
 use Rattle.gateway.proofs.frames.fjord_put_slot.Goals as goal
 
 pub returns : goal.returns

@@ -1,5 +1,4 @@
 use mathlib.Core.Path.{◌∙◌}
-use borrow.Author.Rules.{rules}
 use Rattle.gateway.proofs.frames.of_header.Goals as goal
 
 pub returns-in-Header : goal.returns-in-Header

@@ -1,4 +1,3 @@
-use borrow.Author.Rules.{rules}
 use Rattle.gateway.proofs.numbers.fetch_fields.Goals as goal
 
 pub returns-in-Absent : goal.returns-in-Absent

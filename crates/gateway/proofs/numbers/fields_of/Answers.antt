@@ -1,4 +1,3 @@
-use borrow.Author.Rules.{rules}
 use Rattle.gateway.proofs.numbers.fields_of.Goals as goal
 
 pub returns-in-Startup : goal.returns-in-Startup

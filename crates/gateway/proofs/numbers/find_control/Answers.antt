@@ -1,7 +1,6 @@
 use borrow.Author.Tests.{lt-leb, le-leb}
 use Rattle.gateway.specs.Numbers.{is_message, message_from, message_of}
 use Rattle.gateway.proofs.FieldLaws.{op_found}
-use borrow.Author.Rules.{rules}
 use Rattle.gateway.proofs.numbers.find_control.Goals as goal
 
 pub returns-then-flag-gt1 : goal.returns-then-flag-gt1

@@ -1,6 +1,5 @@
 use Rattle.gateway.specs.Numbers.{is_message, message_from, message_of}
 use Rattle.gateway.proofs.FieldLaws.{error_found}
-use borrow.Author.Rules.{rules}
 use Rattle.gateway.proofs.numbers.find_error.Goals as goal
 
 pub returns-in-Unknown : goal.returns-in-Unknown

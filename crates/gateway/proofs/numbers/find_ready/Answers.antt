@@ -1,6 +1,5 @@
 use borrow.Author.Tests.{lt-leb, le-leb}
 use Rattle.gateway.specs.Numbers.{is_message, message_from, message_of}
-use borrow.Author.Rules.{rules}
 use Rattle.gateway.proofs.numbers.find_ready.Goals as goal
 
 pub returns-then-version-gt4294967295 : goal.returns-then-version-gt4294967295

@@ -1,4 +1,4 @@
-use borrow.Author.Tests.{ne_eqb}
+use Rattle.std.proofs.Common.{tests, rules}
 use Rattle.gateway.specs.Numbers.{is_message, message_from, message_of}
 use borrow.Author.Rules.{rules}
 use Rattle.gateway.proofs.numbers.message_of.Goals as goal
@@ -46,4 +46,4 @@ returns-in-12 c = simp (c.in-12.is, c.find_listing_digest.ensures)
 
 pub returns-in_default : goal.returns-in_default
 unfolding message_of message_from is_message
-returns-in_default c = simp (ne_eqb _ _ c.in_default.in_default-own.rest.0.0.0.0.0.0.0.0.0.0.0.1, ne_eqb _ _ c.in_default.in_default-own.rest.0.0.0.0.0.0.0.0.0.0.1, ne_eqb _ _ c.in_default.in_default-own.rest.0.0.0.0.0.0.0.0.0.1, ne_eqb _ _ c.in_default.in_default-own.rest.0.0.0.0.0.0.0.0.1, ne_eqb _ _ c.in_default.in_default-own.rest.0.0.0.0.0.0.0.1, ne_eqb _ _ c.in_default.in_default-own.rest.0.0.0.0.0.0.1, ne_eqb _ _ c.in_default.in_default-own.rest.0.0.0.0.0.1, ne_eqb _ _ c.in_default.in_default-own.rest.0.0.0.0.1, ne_eqb _ _ c.in_default.in_default-own.rest.0.0.0.1, ne_eqb _ _ c.in_default.in_default-own.rest.0.0.1, ne_eqb _ _ c.in_default.in_default-own.rest.0.1, ne_eqb _ _ c.in_default.in_default-own.rest.1)
+returns-in_default c = search (tests, rules)

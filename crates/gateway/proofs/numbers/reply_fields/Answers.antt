@@ -1,4 +1,3 @@
-use borrow.Author.Rules.{rules}
 use Rattle.gateway.proofs.numbers.reply_fields.Goals as goal
 
 pub returns-in-Created : goal.returns-in-Created

@@ -1,5 +1,4 @@
 use mathlib.Core.Path.{◌∙◌}
-use borrow.Author.Rules.{rules}
 use Rattle.gateway.proofs.receiver.of_opening.Goals as goal
 
 pub returns-in-Accepted : goal.returns-in-Accepted

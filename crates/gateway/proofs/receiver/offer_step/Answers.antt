@@ -1,5 +1,4 @@
 use Rattle.gateway.proofs.FrameEntryLaws.{offer_told}
-use borrow.Author.Rules.{rules}
 use Rattle.gateway.proofs.receiver.offer_step.Goals as goal
 
 pub returns : goal.returns

@@ -1,6 +1,5 @@
 use mathlib.Core.Path.{◌∙◌}
 use Rattle.gateway.proofs.FrameEntryLaws.{outcome_told}
-use borrow.Author.Rules.{rules}
 use Rattle.gateway.proofs.receiver.tell_outcome.Goals as goal
 
 pub returns-in-More : goal.returns-in-More

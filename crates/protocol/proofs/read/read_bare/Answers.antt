@@ -1,3 +1,4 @@
+use native.Mathlib.Omega.{arith}
 use mathlib.Core.Path.{refl}
 use Rattle.protocol.specs.Said.{said_ready, said_complete, said_listing, read_entry, lay}
 use Rattle.protocol.specs.Ready.{read_ready, lay_ready}
@@ -21,5 +22,5 @@ returns-in-4 c =
 pub returns-in_default : goal.returns-in_default
 unfolding read_entry lay lay_listing
 returns-in_default c =
-    let e = last_bare c.requires c.in_default.in_default-own.rest.0.1 c.in_default.in_default-own.rest.1 in
+    let e = last_bare c.requires (omega arith) (omega arith) in
     entry_bare said_listing lay_listing (λ a. refl) (λ a. refl) (read_listing c.args.s.now) (λ limit. rw e) c.read_listing_digest.ensures

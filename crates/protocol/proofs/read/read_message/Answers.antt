@@ -1,4 +1,5 @@
-use mathlib.Core.Path.{refl}
+use native.Mathlib.Omega.{arith}
+use mathlib.Core.Path.{◌≡◌, refl}
 use Rattle.protocol.specs.Said.{said_startup, said_error, said_ids, said_types, said_control, said_reply, said_profile, said_page, said_fetch, read_entry, lay}
 use Rattle.protocol.specs.Startup.{read_startup, lay_startup}
 use Rattle.protocol.specs.Error.{read_error, lay_error}
@@ -9,7 +10,7 @@ use Rattle.protocol.specs.Reply.{read_reply, lay_reply}
 use Rattle.protocol.specs.Profile.{read_profile, lay_profile}
 use Rattle.protocol.specs.Page.{read_page, lay_page}
 use Rattle.protocol.specs.Fetch.{read_fetch, lay_fetch}
-use Rattle.protocol.proofs.MessageReads.{said_laid, past, eleven}
+use Rattle.protocol.proofs.MessageReads.{said_laid}
 use Rattle.protocol.proofs.read.read_message.Goals as goal
 
 pub returns-in-1 : goal.returns-in-1
@@ -47,5 +48,6 @@ returns-in-10 c = rw (c.in-10.is, said_laid said_page lay_page (λ a. refl) (rea
 pub returns-in_default : goal.returns-in_default
 unfolding read_entry lay
 returns-in_default c =
-    let e = eleven (past 10 (past 9 (past 8 (past 7 (past 6 (past 5 (past 4 (past 3 (past 2 (past 1 c.requires.0.some c.in_default.in_default-own.rest.0.0.0.0.0.0.0.1) c.requires.0.ready) c.in_default.in_default-own.rest.0.0.0.0.0.0.1) c.requires.0.complete) c.in_default.in_default-own.rest.0.0.0.0.0.1) c.in_default.in_default-own.rest.0.0.0.0.1) c.in_default.in_default-own.rest.0.0.0.1) c.in_default.in_default-own.rest.0.0.1) c.in_default.in_default-own.rest.0.1) c.in_default.in_default-own.rest.1) c.requires.0.most in
+    let r = c.requires.0 in
+    let e : c.args.entry ≡ 11 = omega (arith, r.ready, r.complete) in
     rw (e, said_laid said_fetch lay_fetch (λ a. refl) (read_fetch c.args.s.now)) c.read_fetch.ensures

@@ -7,14 +7,14 @@ use Rattle.varint.proofs.ZigzagLaws.{unzig_even, unzig_odd}
 use Rattle.varint.proofs.Bits64.{flip}
 use Rattle.varint.proofs.signed.unzigzag.Goals as goal
 
-pub returns-then-bits-eq0 : goal.returns-then-bits-eq0
-returns-then-bits-eq0 c =
+pub returns-then-even : goal.returns-then-even
+returns-then-even c =
     let u = c.args.bits in
     let h : u / 2 < 9223372036854775808 = omega arith in
-    to_z_pos w64 (u / 2) h ∙ sym (unzig_even u c.if-bits-eq0.true)
+    to_z_pos w64 (u / 2) h ∙ sym (unzig_even u c.if-even.true)
 
-pub returns-else-bits-eq0 : goal.returns-else-bits-eq0
-returns-else-bits-eq0 c =
+pub returns-else-even : goal.returns-else-even
+returns-else-even c =
     let u = c.args.bits in
     let h : u / 2 < 9223372036854775808 = omega arith in
-    flip (u / 2) h ∙ sym (unzig_odd u c.if-bits-eq0.false)
+    flip (u / 2) h ∙ sym (unzig_odd u c.if-even.false)

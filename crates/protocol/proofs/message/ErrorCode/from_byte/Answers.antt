@@ -1,4 +1,4 @@
-use borrow.Author.Tests.{ne_eqb}
+use Rattle.std.proofs.Common.{tests, rules}
 use Rattle.protocol.proofs.message.ErrorCode.from_byte.Goals as goal
 
 pub returns-in-1 : goal.returns-in-1
@@ -35,4 +35,4 @@ pub returns-in-11 : goal.returns-in-11
 returns-in-11 c = simp c.in-11.is
 
 pub returns-in_default : goal.returns-in_default
-returns-in_default c = simp (ne_eqb _ _ c.in_default.in_default-own.rest.0.0.0.0.0.0.0.0.0.0.1, ne_eqb _ _ c.in_default.in_default-own.rest.0.0.0.0.0.0.0.0.0.1, ne_eqb _ _ c.in_default.in_default-own.rest.0.0.0.0.0.0.0.0.1, ne_eqb _ _ c.in_default.in_default-own.rest.0.0.0.0.0.0.0.1, ne_eqb _ _ c.in_default.in_default-own.rest.0.0.0.0.0.0.1, ne_eqb _ _ c.in_default.in_default-own.rest.0.0.0.0.0.1, ne_eqb _ _ c.in_default.in_default-own.rest.0.0.0.0.1, ne_eqb _ _ c.in_default.in_default-own.rest.0.0.0.1, ne_eqb _ _ c.in_default.in_default-own.rest.0.0.1, ne_eqb _ _ c.in_default.in_default-own.rest.0.1, ne_eqb _ _ c.in_default.in_default-own.rest.1)
+returns-in_default c = search (tests, rules)

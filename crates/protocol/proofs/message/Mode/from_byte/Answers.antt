@@ -1,4 +1,4 @@
-use borrow.Author.Tests.{ne_eqb}
+use Rattle.std.proofs.Common.{tests, rules}
 use Rattle.protocol.proofs.message.Mode.from_byte.Goals as goal
 
 pub returns-in-0 : goal.returns-in-0
@@ -8,4 +8,4 @@ pub returns-in-1 : goal.returns-in-1
 returns-in-1 c = simp c.in-1.is
 
 pub returns-in_default : goal.returns-in_default
-returns-in_default c = simp (ne_eqb _ _ c.in_default.in_default-own.rest.0.1, ne_eqb _ _ c.in_default.in_default-own.rest.1)
+returns-in_default c = search (tests, rules)
