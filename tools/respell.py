@@ -167,9 +167,6 @@ def main():
             old, to = (os.path.join(ROOT, "crates", crate, it) for it in (old, to))
             if os.path.exists(old):
                 os.rename(old, to)
-    with open("/tmp/respelled.tsv", "w", encoding="utf-8") as f:
-        for it in sorted(new):
-            f.write(f"{it}\t{new[it]}\n")
     return 0
 
 

@@ -74,7 +74,7 @@ impl Memory {
     }
 
     /// Enough for every message whose payload has `len` bytes: text of `len` bytes, rows of twice and nodes of seven times as many numbers
-    /// (the library's theorem `message-sizes`).
+    /// (the library's theorem `message_sizes`).
     ///
     /// ```
     /// let mut memory = fjord_gateway::Memory::for_payload(10);

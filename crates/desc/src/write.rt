@@ -52,7 +52,8 @@ fn root_name(parent: u64, start: u64, len: u64) -> bool
 fn discriminant_fits(parent: u64, discriminant: u64) -> bool
     ensures { result ≡ pick (eqb parent 4) (leb discriminant 0xFFFFFFFF) (eqb discriminant 0) }
 {
-    if parent == 4 {
+    let of_union = parent == 4;
+    if of_union {
         return discriminant <= 0xFFFF_FFFF;
     }
     discriminant == 0

@@ -15,8 +15,8 @@ use Rattle.gateway.specs.Entries.{named_entry, decode_call, encode_numbers, sent
 use Rattle.gateway.proofs.NumberLaws.{message_back, message_found}
 
 -- the message that an answer's numbers mean
-abbrev message_told_lem : List ℕ → Message
-message_told_lem a = message_from (at a 7) (six (at a 8) (at a 9) (at a 10) (at a 11) (at a 12) (at a 13))
+abbrev told_message : List ℕ → Message
+told_message a = message_from (at a 7) (six (at a 8) (at a 9) (at a 10) (at a 11) (at a 12) (at a 13))
 
 -- six fields are read and no more
 abbrev pub first_six : List ℕ → List ℕ
@@ -32,7 +32,7 @@ unfolding message_from
 only_six n f = rw (reply_six (op_in (op_of (at f 0))) f)
 
 pub decode_told : (entry : ℕ) (s tx rs nd : List ℕ) (m : Message) → (decode_message 67108864 64 (named_entry entry) s tx rs nd).answer ≡ Accepted m
-    → message_told_lem (decode_call entry s tx rs nd).answer ≡ m
+    → told_message (decode_call entry s tx rs nd).answer ≡ m
 unfolding decode_call
 decode_told entry s tx rs nd m h = rw h (only_six (number_of m) (fields_of m) ∙ message_back m)
 

@@ -35,7 +35,9 @@ returns-then-i-eq9 c =
     sym (going_at c.loop-p.invariant c.loop-p-test.true c.wide-b.ensures ∙ tenth_more _ _ _ _ _ (omega (arith, c.type_inv.s c.loop-p.p)) (omega arith) c.if-i-eq9.true)
 
 pub returns-then-padded : goal.returns-then-padded
-returns-then-padded c = sym (going_at c.loop-p.invariant c.loop-p-test.true c.wide-b.ensures ∙ last_zero _ _ _ _ _ c.if-b-eq0-2.true c.if-padded.true (omega arith))
+returns-then-padded c =
+    let some : 0 < c.loop-p.i = omega (arith, c.if-padded.true) in
+    sym (going_at c.loop-p.invariant c.loop-p-test.true c.wide-b.ensures ∙ last_zero _ _ _ _ _ c.if-b-eq0-2.true some (omega arith))
 
 pub overflow_mul-result : goal.overflow_mul-result
 overflow_mul-result c = omega (arith, going_fits c.loop-p.invariant _ c.if-b-lt128.true c.if-i-eq9.false)
