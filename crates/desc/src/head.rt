@@ -3,9 +3,18 @@ ghost use Rattle.std.specs.Prelude.{◌≡◌, ◌≤◌, length};
 ghost use Rattle.varint.specs.Leb128.{get_u64};
 ghost use Rattle.desc.specs.Reading.{fact_on, count_on, head_at, name_by, discriminant_on, label_at};
 
-use varint::ReadU64;
 use varint::error::Refusal;
 use varint::text::{ReadText, skim_str, take_name};
+use varint::{MAX_U32, Number, ReadU64};
+
+// Tags of descriptors (desc.rs): those whose start has more than the tag, and the last of all.
+pub(crate) const TAG_FACT: u64 = 2;
+
+pub(crate) const TAG_RECORD: u64 = 3;
+
+pub(crate) const TAG_UNION: u64 = 4;
+
+pub(crate) const TAG_BYTES: u64 = 5;
 
 // A type without parts, by its tag and a fact's predicate; or one with parts, by its tag and how many.
 #[derive(Clone, Copy)]
@@ -41,11 +50,11 @@ fn read_fact(s: &[u8], p: usize) -> Head
 {
     match varint::get_u64(s, p) {
         ReadU64::Value { value, next } => {
-            if 0xFFFF_FFFF < value {
+            if MAX_U32 < value {
                 return Head::Refused(Refusal::UnknownPredicate);
             }
             Head::Leaf {
-                tag: 2,
+                tag: TAG_FACT,
                 predicate: value,
                 next,
             }
@@ -59,23 +68,18 @@ fn read_count(s: &[u8], at: usize, tag: u64, p: usize) -> Head
     requires { (at ≤ p) × (p ≤ length s.now) }
     ensures { result ≡ count_on s.now at tag (get_u64 s.now p) }
 {
-    match varint::get_u64(s, p) {
-        ReadU64::Value { value, next } => {
-            let available = (s.len() - at) as u64;
-            if available < value {
-                return Head::Refused(Refusal::LengthOutOfRange {
-                    declared: value,
-                    available,
-                });
-            }
-            Head::Branch {
-                tag,
-                count: value,
-                next,
-            }
-        }
-        ReadU64::Refused(r) => Head::Refused(r),
+    let Number(count, next) = match varint::get_u64(s, p) {
+        ReadU64::Refused(r) => return Head::Refused(r),
+        ReadU64::Value { value, next } => Number(value, next),
+    };
+    let available = (s.len() - at) as u64;
+    if available < count {
+        return Head::Refused(Refusal::LengthOutOfRange {
+            declared: count,
+            available,
+        });
     }
+    Head::Branch { tag, count, next }
 }
 
 // The start of the descriptor at place `at`.
@@ -84,16 +88,16 @@ pub(crate) fn read_head(s: &[u8], at: usize) -> Head
 {
     match varint::get_u64(s, at) {
         ReadU64::Value { value: tag, next } => {
-            if tag == 2 {
+            if tag == TAG_FACT {
                 return read_fact(s, next);
             }
-            if tag == 3 {
+            if tag == TAG_RECORD {
                 return read_count(s, at, tag, next);
             }
-            if tag == 4 {
+            if tag == TAG_UNION {
                 return read_count(s, at, tag, next);
             }
-            if 5 < tag {
+            if TAG_BYTES < tag {
                 return Head::Refused(Refusal::UnknownRefForm(tag));
             }
             Head::Leaf {
@@ -122,7 +126,7 @@ fn read_discriminant(s: &[u8], start: usize, len: usize, p: usize) -> Label
 {
     match varint::get_u64(s, p) {
         ReadU64::Value { value, next } => {
-            if 0xFFFF_FFFF < value {
+            if MAX_U32 < value {
                 return Label::Refused(Refusal::UnknownDiscriminant(value));
             }
             Label::Named {
@@ -142,7 +146,7 @@ pub(crate) fn read_label(s: &[u8], tag: u64, p: usize, check: bool) -> Label
 {
     match read_name(s, p, check) {
         ReadText::Text { start, len, next } => {
-            if tag == 4 {
+            if tag == TAG_UNION {
                 return read_discriminant(s, start, len, next);
             }
             Label::Named {

@@ -9,6 +9,8 @@ pub mod node;
 pub mod write;
 
 ghost use Rattle.std.specs.Prelude.{◌≡◌, true, false, ◌+◌, ◌≤◌, length};
+ghost use Rattle.varint.specs.declared.error.Refusal.TheVariants.{TooSmall};
+ghost use Rattle.desc.specs.declared.DescAnswer.TheVariants.{Refused};
 ghost use Rattle.desc.specs.Decoding.{measured, fill_desc, decode_desc};
 ghost use Rattle.desc.specs.Reading.{desc};
 ghost use Rattle.desc.specs.Inner.Walking.{outcome, Agrees};
@@ -33,6 +35,10 @@ pub enum Walked {
     },
     Refused(Refusal),
 }
+
+// What was measured: where it ends, how much text and how many nodes it has.
+#[derive(Clone, Copy)]
+struct Measured(usize, usize, usize);
 
 #[derive(Clone, Copy)]
 pub enum DescAnswer {
@@ -197,6 +203,16 @@ pub fn fill_desc(
     }
 }
 
+// The refusal of a buffer that is lent too small.
+fn too_small(which: Buffer, needed: usize) -> DescAnswer
+    ensures { result ≡ Refused (TooSmall which needed) }
+{
+    DescAnswer::Refused(Refusal::TooSmall {
+        which,
+        needed: needed as u64,
+    })
+}
+
 // Decodes a descriptor of at most `max` bytes and `limit` levels.
 fn decode_within(
     payload: &[u8],
@@ -216,34 +232,23 @@ fn decode_within(
             max,
         });
     }
-    match measure_desc(payload, 0, limit) {
-        Walked::Read {
-            next,
-            text: t,
-            nodes: m,
-        } => {
-            let short = text.len() < t;
-            if short {
-                return DescAnswer::Refused(Refusal::TooSmall {
-                    which: Buffer::Text,
-                    needed: t as u64,
-                });
-            }
-            let numbers = m * WIDTH;
-            if nodes.len() < numbers {
-                return DescAnswer::Refused(Refusal::TooSmall {
-                    which: Buffer::Nodes,
-                    needed: numbers as u64,
-                });
-            }
-            walk(payload, 0, limit, limit, false, text, 0, nodes, 0, 0, 0, 0);
-            clear_bytes(text, t);
-            clear_numbers(rows, 0);
-            clear_numbers(nodes, numbers);
-            DescAnswer::Accepted { used: next }
-        }
-        Walked::Refused(e) => DescAnswer::Refused(e),
+    let Measured(used, t, m) = match measure_desc(payload, 0, limit) {
+        Walked::Refused(e) => return DescAnswer::Refused(e),
+        Walked::Read { next, text, nodes } => Measured(next, text, nodes),
+    };
+    let short = text.len() < t;
+    if short {
+        return too_small(Buffer::Text, t);
     }
+    let numbers = m * WIDTH;
+    if nodes.len() < numbers {
+        return too_small(Buffer::Nodes, numbers);
+    }
+    walk(payload, 0, limit, limit, false, text, 0, nodes, 0, 0, 0, 0);
+    clear_bytes(text, t);
+    clear_numbers(rows, 0);
+    clear_numbers(nodes, numbers);
+    DescAnswer::Accepted { used }
 }
 
 // The descriptor at the start of a payload: its texts in text, its nodes in nodes, and zeros behind them; rows are cleared too.

@@ -10,12 +10,13 @@ ghost use Rattle.desc.specs.Emitting.{put_number, put_where, put_name, put_label
 ghost use Rattle.desc.specs.Inner.Emission.{nowhere, told, emission};
 ghost use Rattle.desc.specs.Encoding.{encode_desc};
 
+use crate::head::{TAG_BYTES, TAG_FACT, TAG_RECORD, TAG_UNION};
 use crate::node;
 use crate::node::read_cell;
 use varint::error::{Buffer, Fault, Refusal};
 use varint::store::{clear_bytes, copy_bytes};
 use varint::utf8::is_utf8;
-use varint::{Written, len_u64, put_u64};
+use varint::{MAX_U32, Written, len_u64, put_u64};
 
 // The node after the last one written, and the place after the last byte; or the table is not laid out as one.
 #[derive(Clone, Copy)]
@@ -52,9 +53,9 @@ fn root_name(parent: u64, start: u64, len: u64) -> bool
 fn discriminant_fits(parent: u64, discriminant: u64) -> bool
     ensures { result ≡ pick (eqb parent 4) (leb discriminant 0xFFFFFFFF) (eqb discriminant 0) }
 {
-    let of_union = parent == 4;
+    let of_union = parent == TAG_UNION;
     if of_union {
-        return discriminant <= 0xFFFF_FFFF;
+        return discriminant <= MAX_U32;
     }
     discriminant == 0
 }
@@ -63,8 +64,8 @@ fn discriminant_fits(parent: u64, discriminant: u64) -> bool
 fn predicate_fits(tag: u64, predicate: u64) -> bool
     ensures { result ≡ pick (eqb tag 2) (leb predicate 0xFFFFFFFF) (eqb predicate 0) }
 {
-    if tag == 2 {
-        return predicate <= 0xFFFF_FFFF;
+    if tag == TAG_FACT {
+        return predicate <= MAX_U32;
     }
     predicate == 0
 }
@@ -73,7 +74,7 @@ fn predicate_fits(tag: u64, predicate: u64) -> bool
 fn is_branch(tag: u64) -> bool
     ensures { result ≡ (eqb tag 3 || eqb tag 4) }
 {
-    (tag == 3) | (tag == 4)
+    (tag == TAG_RECORD) | (tag == TAG_UNION)
 }
 
 // Is node `n` there, and laid out as a node may be below a parent with this tag? A type without parts has no children, and ends behind itself. The
@@ -90,7 +91,7 @@ fn node_fits(nodes: &[u64], n: usize, parent: u64) -> bool
     let valued = discriminant_fits(parent, nodes[k + node::DISCRIMINANT])
         & predicate_fits(tag, nodes[k + node::PREDICATE]);
     let childless = (nodes[k + node::COUNT] == 0) & (nodes[k + node::END] == (n + 1) as u64);
-    (tag <= 5) & named & valued & (is_branch(tag) | childless)
+    (tag <= TAG_BYTES) & named & valued & (is_branch(tag) | childless)
 }
 
 // The sum, or the greatest number where it is greater.
@@ -111,12 +112,25 @@ pub fn put_number(out: &mut [u8], at: usize, v: u64) -> usize
     plus(at, n)
 }
 
+// The same for a number that mostly has one byte, as a tag, a count or a name's length: that takes no call.
+fn put_small(out: &mut [u8], at: usize, v: u64) -> usize
+    ensures { record { out = out.new; place = result } ≡ put_number v (record { out = out.old; place = at }) }
+{
+    if v < 0x80 {
+        if at < out.len() {
+            out[at] = v as u8;
+            return at + 1;
+        }
+    }
+    put_number(out, at, v)
+}
+
 // The same where it is wanted; else nothing is stored.
 fn put_where(out: &mut [u8], at: usize, wanted: bool, v: u64) -> usize
     ensures { record { out = out.new; place = result } ≡ put_where wanted v (record { out = out.old; place = at }) }
 {
     if wanted {
-        return put_number(out, at, v);
+        return put_small(out, at, v);
     }
     at
 }
@@ -138,9 +152,9 @@ fn put_label(text: &[u8], nodes: &[u64], m: usize, tag: u64, out: &mut [u8], at:
     let start = nodes[k + node::START];
     let len = nodes[k + node::LEN];
     let discriminant = nodes[k + node::DISCRIMINANT];
-    let named = put_number(out, at, len);
+    let named = put_small(out, at, len);
     let past = put_name(text, start as usize, len as usize, out, named);
-    put_where(out, past, tag == 4, discriminant)
+    put_where(out, past, tag == TAG_UNION, discriminant)
 }
 
 // Two numbers, the second only where it is asked for.
@@ -183,7 +197,7 @@ fn emit(
     let k = n * node::WIDTH;
     let tag = nodes[k + node::TAG];
     if !is_branch(tag) {
-        let place = put_two(out, at, tag, tag == 2, nodes[k + node::PREDICATE]);
+        let place = put_two(out, at, tag, tag == TAG_FACT, nodes[k + node::PREDICATE]);
         return Emitted::Done { next: n + 1, place };
     }
     let count = nodes[k + node::COUNT];
@@ -235,7 +249,7 @@ fn past_label(nodes: &[u64], m: usize, tag: u64, at: usize) -> usize
     let len = nodes[k + node::LEN];
     let named = past_number(at, len);
     let past = plus(named, len as usize);
-    past_where(past, tag == 4, nodes[k + node::DISCRIMINANT])
+    past_where(past, tag == TAG_UNION, nodes[k + node::DISCRIMINANT])
 }
 
 // What `emit` answers, whatever the text and the buffer are: the test of the layout and the place after the last byte, with nothing stored. A walk of
@@ -253,7 +267,7 @@ fn gauge(nodes: &[u64], n: usize, parent: u64, depth: u64, at: usize) -> Emitted
     let tag = nodes[k + node::TAG];
     let past = plus(at, 1);
     if !is_branch(tag) {
-        let place = past_where(past, tag == 2, nodes[k + node::PREDICATE]);
+        let place = past_where(past, tag == TAG_FACT, nodes[k + node::PREDICATE]);
         return Emitted::Done { next: n + 1, place };
     }
     let count = nodes[k + node::COUNT];
@@ -369,29 +383,27 @@ fn encode_within(text: &[u8], nodes: &[u64], max: u64, limit: u64, out: &mut [u8
     requires { max ≤ 4294967296 }
     ensures { record { answer = result; out = out.new } ≡ encode_desc max limit text.now nodes.now out.old }
 {
-    match size_desc(nodes, 0, limit) {
-        Emitted::Wrong => Written::Refused(Refusal::BadMessage(Fault::Layout)),
-        Emitted::Done { next, place } => match check_names(text, nodes, 1, next) {
-            Names::Refused(r) => Written::Refused(r),
-            Names::Good => {
-                if max < place as u64 {
-                    return Written::Refused(Refusal::BlockTooLarge {
-                        declared: place as u64,
-                        max,
-                    });
-                }
-                if out.len() < place {
-                    return Written::Refused(Refusal::TooSmall {
-                        which: Buffer::Out,
-                        needed: place as u64,
-                    });
-                }
-                emit(text, nodes, 0, 0, limit, out, 0);
-                clear_bytes(out, place);
-                Written::Wrote { len: place }
-            }
-        },
+    let Emitted::Done { next, place } = size_desc(nodes, 0, limit) else {
+        return Written::Refused(Refusal::BadMessage(Fault::Layout));
+    };
+    if let Names::Refused(e) = check_names(text, nodes, 1, next) {
+        return Written::Refused(e);
     }
+    if max < place as u64 {
+        return Written::Refused(Refusal::BlockTooLarge {
+            declared: place as u64,
+            max,
+        });
+    }
+    if out.len() < place {
+        return Written::Refused(Refusal::TooSmall {
+            which: Buffer::Out,
+            needed: place as u64,
+        });
+    }
+    emit(text, nodes, 0, 0, limit, out, 0);
+    clear_bytes(out, place);
+    Written::Wrote { len: place }
 }
 
 // Writes the descriptor that a node table and its texts make, and zeros after it; or a refusal, and nothing is written.

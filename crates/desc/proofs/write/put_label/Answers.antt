@@ -5,4 +5,4 @@ use Rattle.desc.proofs.write.put_label.Goals as goal
 pub returns : goal.returns
 returns c =
     let a = c.args in
-    label_steps a.text.now a.nodes.now _ a.m _ _ _ _ _ _ _ refl refl refl c.put_number-named.ensures c.put_name-past.ensures c.put_where.ensures
+    label_steps a.text.now a.nodes.now _ a.m _ _ _ _ _ _ _ refl refl refl c.put_small-named.ensures c.put_name-past.ensures c.put_where.ensures
