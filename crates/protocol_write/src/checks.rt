@@ -12,10 +12,12 @@ ghost use Rattle.protocol.specs.Types.{node_after, type_numbers, type_laid, type
 ghost use Rattle.protocol.specs.declared.message.RowKind.TheVariants.{Predicate};
 ghost use Rattle.protocol_write.specs.Inner.Checking.{row_good, numbers_fine, laid_as, nodes_fine, LaidAt, ValueLaid, RowLaid, value_names, row_names, rows_names, rows_fine, startup_fine, reply_fine, fetch_fine, fine};
 
+use crate::columns;
 use desc::node;
 use desc::node::read_cell;
 use desc::write::{Emitted, Names, check_name, check_names, size_desc};
 use protocol::message::{ControlReply, Message, RowKind, Span};
+use varint::MAX_U32;
 use varint::error::{Fault, Refusal};
 use varint::utf8::is_utf8;
 
@@ -114,10 +116,10 @@ fn check_type(text: &[u8], rows: &[u64], nodes: &[u64], r: usize, limit: u64) ->
     requires { RowLaid Predicate limit rows.now nodes.now r }
     ensures { result ≡ row_names Predicate limit text.now rows.now nodes.now r }
 {
-    let start = number_at(rows, r, 1);
-    let len = number_at(rows, r, 2);
-    let has = number_at(rows, r, 4);
-    let key = number_at(rows, r, 5);
+    let start = number_at(rows, r, columns::TYPE_START);
+    let len = number_at(rows, r, columns::TYPE_LEN);
+    let has = number_at(rows, r, columns::TYPE_VALUE);
+    let key = number_at(rows, r, columns::TYPE_KEY);
     let named = check_name(text, start as usize, len as usize);
     let keyed = check_desc(text, nodes, key as usize, limit);
     let valued = check_value(text, nodes, has, key as usize, limit);
@@ -128,8 +130,8 @@ fn check_type(text: &[u8], rows: &[u64], nodes: &[u64], r: usize, limit: u64) ->
 fn check_label(text: &[u8], rows: &[u64], r: usize) -> Names
     ensures { result ≡ verdict (name_held text.now (get_or rows.now r 0) (get_or rows.now (r + 1) 0)) }
 {
-    let start = number_at(rows, r, 0);
-    let len = number_at(rows, r, 1);
+    let start = number_at(rows, r, columns::LABEL_START);
+    let len = number_at(rows, r, columns::LABEL_LEN);
     check_name(text, start as usize, len as usize)
 }
 
@@ -200,10 +202,10 @@ fn check_named(
 fn type_good(rows: &[u64], r: usize) -> bool
     ensures { result ≡ type_numbers rows.now r }
 {
-    let id = number_at(rows, r, 0);
-    let virtual_flag = number_at(rows, r, 3);
-    let value_flag = number_at(rows, r, 4);
-    (id <= 0xFFFF_FFFF) & (virtual_flag <= 1) & (value_flag <= 1)
+    let id = number_at(rows, r, columns::TYPE_ID);
+    let virtual_flag = number_at(rows, r, columns::TYPE_VIRTUAL);
+    let value_flag = number_at(rows, r, columns::TYPE_VALUE);
+    (id <= MAX_U32) & (virtual_flag <= 1) & (value_flag <= 1)
 }
 
 fn row_good(kind: RowKind, rows: &[u64], r: usize) -> bool
@@ -213,7 +215,7 @@ fn row_good(kind: RowKind, rows: &[u64], r: usize) -> bool
         RowKind::Claim => true,
         RowKind::Id => true,
         RowKind::Predicate => type_good(rows, r),
-        RowKind::Step => number_at(rows, r, 3) <= 1,
+        RowKind::Step => number_at(rows, r, columns::STEP_SCAN) <= 1,
         RowKind::Pair => true,
     }
 }
@@ -384,19 +386,18 @@ fn check_reply(reply: ControlReply, text: &[u8]) -> Names
 fn check_fetch(limit: u64, text: &[u8], rows: &[u64], nodes: &[u64], count: u64) -> Names
     ensures { result ≡ fetch_fine limit text.now rows.now nodes.now count }
 {
-    match check_rows(RowKind::Pair, limit, text, rows, nodes, count) {
-        Names::Refused(e) => Names::Refused(e),
-        Names::Good => {
-            let too_many = Message::MAX_FETCH < count;
-            if too_many {
-                return Names::Refused(Refusal::BlockTooLarge {
-                    declared: count,
-                    max: Message::MAX_FETCH,
-                });
-            }
-            Names::Good
-        }
+    let found = check_rows(RowKind::Pair, limit, text, rows, nodes, count);
+    let Names::Good = found else {
+        return found;
+    };
+    let too_many = Message::MAX_FETCH < count;
+    if too_many {
+        return Names::Refused(Refusal::BlockTooLarge {
+            declared: count,
+            max: Message::MAX_FETCH,
+        });
     }
+    Names::Good
 }
 
 // Can the message be written?

@@ -2,6 +2,7 @@
 #![tactic(auto)]
 
 pub mod checks;
+mod columns;
 mod write;
 
 ghost use Rattle.std.specs.Prelude.{◌≡◌, ◌≤◌};

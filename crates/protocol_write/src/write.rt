@@ -7,6 +7,7 @@ ghost use Rattle.protocol.specs.Rows.{width_of};
 ghost use Rattle.protocol_write.specs.Inner.Writing.{put_byte, put_flag, put_fixed, put_two, put_text, put_at, put_pair, put_labelled, put_step, put_value, put_type, put_row, put_rows, put_counted, put_tagged, put_startup, put_control, put_finished, put_reply, put_page, put_digest, put_message};
 
 use crate::checks::{few_rows, number_at};
+use crate::columns;
 use desc::node;
 use desc::node::read_cell;
 use desc::write::{Emitted, plus, put_desc, put_name, put_number};
@@ -131,9 +132,9 @@ fn write_type(
 fn write_labelled(text: &[u8], rows: &[u64], r: usize, out: &mut [u8], at: usize) -> usize
     ensures { record { out = out.new; place = result } ≡ put_labelled text.now rows.now r (record { out = out.old; place = at }) }
 {
-    let start = number_at(rows, r, 0);
-    let len = number_at(rows, r, 1);
-    let v = number_at(rows, r, 2);
+    let start = number_at(rows, r, columns::LABEL_START);
+    let len = number_at(rows, r, columns::LABEL_LEN);
+    let v = number_at(rows, r, columns::LABEL_NUMBER);
     let named = write_text(text, start, len, out, at);
     put_number(out, named, v)
 }
@@ -141,7 +142,7 @@ fn write_labelled(text: &[u8], rows: &[u64], r: usize, out: &mut [u8], at: usize
 fn write_step(text: &[u8], rows: &[u64], r: usize, out: &mut [u8], at: usize) -> usize
     ensures { record { out = out.new; place = result } ≡ put_step text.now rows.now r (record { out = out.old; place = at }) }
 {
-    let scan = number_at(rows, r, 3);
+    let scan = number_at(rows, r, columns::STEP_SCAN);
     let past = write_labelled(text, rows, r, out, at);
     write_flag(out, past, scan != 0)
 }

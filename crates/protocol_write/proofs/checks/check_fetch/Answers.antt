@@ -5,12 +5,12 @@ use Rattle.protocol_write.proofs.checks.check_fetch.Goals as goal
 
 pub returns-then-too_many : goal.returns-then-too_many
 unfolding fetch_fine then_names
-returns-then-too_many c = rw (← c.check_rows.ensures, c.in-Good.is, lt-ltb 4096 _ c.if-too_many.true)
+returns-then-too_many c = rw (← c.check_rows-found.ensures, c.in-Good.is, lt-ltb 4096 _ c.if-too_many.true)
 
-pub returns-in-Refused : goal.returns-in-Refused
+pub returns-in_default : goal.returns-in_default
 unfolding fetch_fine then_names
-returns-in-Refused c = rw (← c.check_rows.ensures, c.in-Refused.is)
+returns-in_default c = rw (← c.check_rows-found.ensures, c.in_default.is)
 
-pub returns-else-too_many : goal.returns-else-too_many
+pub returns : goal.returns
 unfolding fetch_fine then_names
-returns-else-too_many c = rw (← c.check_rows.ensures, c.in-Good.is, le-ltb 4096 _ c.if-too_many.false)
+returns c = rw (← c.check_rows-found.ensures, c.in-Good.is, le-ltb 4096 _ c.if-too_many.false)
