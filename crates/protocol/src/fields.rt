@@ -15,6 +15,18 @@ use varint::store::copy_bytes;
 use varint::text::{ReadText, get_str, skim_str, take_name};
 use varint::{ReadU64, get_u64};
 
+// A fetch's flag.
+const NO_DIGEST: u8 = 0;
+
+const DIGEST: u8 = 1;
+
+// A field that was read, and the place after it.
+#[derive(Clone, Copy)]
+struct Byte(u8, usize);
+
+#[derive(Clone, Copy)]
+pub(crate) struct Flag(pub bool, pub usize);
+
 #[derive(Clone, Copy)]
 pub(crate) enum ReadByte {
     Byte { value: u8, next: usize },
@@ -164,29 +176,28 @@ pub(crate) fn read_text(s: &[u8], at: usize, check: bool, text: &mut [u8], t: us
     keep_text(s, skim_str(s, at), text, t)
 }
 
-// A fetch's flag, and the digest behind it where the flag is 1.
+// A fetch's flag, and the digest behind it where the flag says that there is one.
 pub(crate) fn read_digest(s: &[u8], at: usize) -> ReadDigest
     ensures { got_digest result ≡ digest.read s.now at }
 {
-    match read_byte(s, at, Refusal::UnexpectedEof) {
-        ReadByte::Refused(e) => ReadDigest::Refused(e),
-        ReadByte::Byte { value: flag, next } => {
-            if flag == 0 {
-                return ReadDigest::Digest {
-                    digest: Digest::Absent,
-                    next,
-                };
-            }
-            if flag != 1 {
-                return ReadDigest::Refused(Refusal::BadDigestFlag(flag));
-            }
-            match get_u64(s, next) {
-                ReadU64::Refused(e) => ReadDigest::Refused(e),
-                ReadU64::Value { value, next: end } => ReadDigest::Digest {
-                    digest: Digest::Present(value),
-                    next: end,
-                },
-            }
-        }
+    let Byte(flag, p) = match read_byte(s, at, Refusal::UnexpectedEof) {
+        ReadByte::Refused(e) => return ReadDigest::Refused(e),
+        ReadByte::Byte { value, next } => Byte(value, next),
+    };
+    if flag == NO_DIGEST {
+        return ReadDigest::Digest {
+            digest: Digest::Absent,
+            next: p,
+        };
+    }
+    if flag != DIGEST {
+        return ReadDigest::Refused(Refusal::BadDigestFlag(flag));
+    }
+    match get_u64(s, p) {
+        ReadU64::Refused(e) => ReadDigest::Refused(e),
+        ReadU64::Value { value, next } => ReadDigest::Digest {
+            digest: Digest::Present(value),
+            next,
+        },
     }
 }

@@ -25,8 +25,8 @@ ghost use Rattle.protocol.specs.Startup.{read_startup, lay_startup};
 ghost use Rattle.protocol.specs.Types.{read_types, lay_types};
 
 use crate::fields::{
-    ReadCode, ReadDigest, ReadFlag, ReadMode, ReadOp, read_code, read_digest, read_flag, read_mode,
-    read_name, read_op, read_text,
+    Flag, ReadCode, ReadDigest, ReadFlag, ReadMode, ReadOp, read_code, read_digest, read_flag,
+    read_mode, read_name, read_op, read_text,
 };
 use crate::message::{ControlOp, ControlReply, Message, RowKind, Span};
 use crate::rows::read_rows;
@@ -37,7 +37,7 @@ use varint::run::{Run, fill_run, skim_run};
 use varint::store::copy_bytes;
 use varint::text::ReadText;
 use varint::utf8::is_utf8;
-use varint::{ReadU64, get_u64};
+use varint::{MAX_U32, Number, ReadU64, get_u64};
 
 // A message, and how many bytes of text and numbers of rows and of nodes it takes.
 #[derive(Clone, Copy)]
@@ -86,91 +86,69 @@ fn left_over(s: &[u8], at: usize) -> Refusal
 pub(crate) fn read_ready(s: &[u8]) -> Found
     ensures { ReadsBare (laid_as lay_ready (read_ready s.now)) result }
 {
-    match get_u64(s, 0) {
-        ReadU64::Refused(e) => Found::Refused(e),
-        ReadU64::Value {
-            value: version,
-            next: p,
-        } => match get_u64(s, p) {
-            ReadU64::Refused(e) => Found::Refused(e),
-            ReadU64::Value {
-                value: fingerprint,
-                next: q,
-            } => match get_u64(s, q) {
-                ReadU64::Refused(e) => Found::Refused(e),
-                ReadU64::Value {
-                    value: predicates,
-                    next: end,
-                } => {
-                    if end < s.len() {
-                        return Found::Refused(left_over(s, end));
-                    }
-                    if 0xFFFF_FFFF < version {
-                        return Found::Refused(Refusal::TypeMismatch(Mismatch::Version));
-                    }
-                    plain(Message::Ready {
-                        version: version as u32,
-                        schema_fingerprint: fingerprint,
-                        predicates,
-                    })
-                }
-            },
-        },
+    let Number(version, p) = match get_u64(s, 0) {
+        ReadU64::Refused(e) => return Found::Refused(e),
+        ReadU64::Value { value, next } => Number(value, next),
+    };
+    let Number(fingerprint, q) = match get_u64(s, p) {
+        ReadU64::Refused(e) => return Found::Refused(e),
+        ReadU64::Value { value, next } => Number(value, next),
+    };
+    let Number(predicates, end) = match get_u64(s, q) {
+        ReadU64::Refused(e) => return Found::Refused(e),
+        ReadU64::Value { value, next } => Number(value, next),
+    };
+    if end < s.len() {
+        return Found::Refused(left_over(s, end));
     }
+    if MAX_U32 < version {
+        return Found::Refused(Refusal::TypeMismatch(Mismatch::Version));
+    }
+    plain(Message::Ready {
+        version: version as u32,
+        schema_fingerprint: fingerprint,
+        predicates,
+    })
 }
 
 pub(crate) fn read_complete(s: &[u8]) -> Found
     ensures { ReadsBare (laid_as lay_complete (read_complete s.now)) result }
 {
-    match get_u64(s, 0) {
-        ReadU64::Refused(e) => Found::Refused(e),
-        ReadU64::Value {
-            value: first,
-            next: p,
-        } => match get_u64(s, p) {
-            ReadU64::Refused(e) => Found::Refused(e),
-            ReadU64::Value {
-                value: second,
-                next: end,
-            } => {
-                if end < s.len() {
-                    return Found::Refused(left_over(s, end));
-                }
-                plain(Message::Complete { first, second })
-            }
-        },
+    let Number(first, p) = match get_u64(s, 0) {
+        ReadU64::Refused(e) => return Found::Refused(e),
+        ReadU64::Value { value, next } => Number(value, next),
+    };
+    let Number(second, end) = match get_u64(s, p) {
+        ReadU64::Refused(e) => return Found::Refused(e),
+        ReadU64::Value { value, next } => Number(value, next),
+    };
+    if end < s.len() {
+        return Found::Refused(left_over(s, end));
     }
+    plain(Message::Complete { first, second })
 }
 
 pub(crate) fn read_listing_digest(s: &[u8]) -> Found
     ensures { ReadsBare (laid_as lay_listing (read_listing s.now)) result }
 {
-    match get_u64(s, 0) {
-        ReadU64::Refused(e) => Found::Refused(e),
-        ReadU64::Value {
-            value: predicate,
-            next: p,
-        } => {
-            if 0xFFFF_FFFF < predicate {
-                return Found::Refused(Refusal::BadListingPredicate(predicate));
-            }
-            match get_u64(s, p) {
-                ReadU64::Refused(e) => Found::Refused(e),
-                ReadU64::Value {
-                    value: digest,
-                    next: end,
-                } => {
-                    if end < s.len() {
-                        return Found::Refused(left_over(s, end));
-                    }
-                    plain(Message::ListingDigest {
-                        predicate: predicate as u32,
-                        digest,
-                    })
-                }
-            }
-        }
+    let Number(predicate, p) = match get_u64(s, 0) {
+        ReadU64::Refused(e) => return Found::Refused(e),
+        ReadU64::Value { value, next } => Number(value, next),
+    };
+    if MAX_U32 < predicate {
+        return Found::Refused(Refusal::BadListingPredicate(predicate));
     }
+    let Number(digest, end) = match get_u64(s, p) {
+        ReadU64::Refused(e) => return Found::Refused(e),
+        ReadU64::Value { value, next } => Number(value, next),
+    };
+    if end < s.len() {
+        return Found::Refused(left_over(s, end));
+    }
+    plain(Message::ListingDigest {
+        predicate: predicate as u32,
+        digest,
+    })
 }
 
 pub(crate) fn read_error(s: &[u8], check: bool, text: &mut [u8]) -> Found
@@ -272,38 +250,31 @@ fn read_created(s: &[u8], at: usize, check: bool, text: &mut [u8]) -> Found
 fn read_finished(s: &[u8], at: usize) -> Found
     ensures { ReadsBare (laid_as lay_finished (ended s.now (finish.read s.now at))) result }
 {
-    match get_u64(s, at) {
-        ReadU64::Refused(e) => Found::Refused(e),
-        ReadU64::Value {
-            value: fingerprint,
-            next: p,
-        } => match get_u64(s, p) {
-            ReadU64::Refused(e) => Found::Refused(e),
-            ReadU64::Value {
-                value: facts,
-                next: q,
-            } => match get_u64(s, q) {
-                ReadU64::Refused(e) => Found::Refused(e),
-                ReadU64::Value {
-                    value: bytes,
-                    next: r,
-                } => match read_flag(s, r, Mismatch::AlreadyComplete) {
-                    ReadFlag::Refused(e) => Found::Refused(e),
-                    ReadFlag::Flag { yes, next: end } => {
-                        if end < s.len() {
-                            return Found::Refused(left_over(s, end));
-                        }
-                        plain(Message::Reply(ControlReply::Finished {
-                            fingerprint,
-                            facts,
-                            bytes,
-                            already_complete: yes,
-                        }))
-                    }
-                },
-            },
-        },
+    let Number(fingerprint, p) = match get_u64(s, at) {
+        ReadU64::Refused(e) => return Found::Refused(e),
+        ReadU64::Value { value, next } => Number(value, next),
+    };
+    let Number(facts, q) = match get_u64(s, p) {
+        ReadU64::Refused(e) => return Found::Refused(e),
+        ReadU64::Value { value, next } => Number(value, next),
+    };
+    let Number(bytes, r) = match get_u64(s, q) {
+        ReadU64::Refused(e) => return Found::Refused(e),
+        ReadU64::Value { value, next } => Number(value, next),
+    };
+    let Flag(yes, end) = match read_flag(s, r, Mismatch::AlreadyComplete) {
+        ReadFlag::Refused(e) => return Found::Refused(e),
+        ReadFlag::Flag { yes, next } => Flag(yes, next),
+    };
+    if end < s.len() {
+        return Found::Refused(left_over(s, end));
     }
+    plain(Message::Reply(ControlReply::Finished {
+        fingerprint,
+        facts,
+        bytes,
+        already_complete: yes,
+    }))
 }
 
 fn read_removed(s: &[u8], at: usize) -> Found
@@ -422,15 +393,13 @@ pub(crate) fn read_ids(
     requires { length s.now ≤ 4294967296 }
     ensures { Reads check (laid_as lay_ids (read_ids s.now)) text.old rows.old nodes.old result text.new rows.new nodes.new }
 {
-    match get_u64(s, 0) {
-        ReadU64::Refused(e) => Found::Refused(e),
-        ReadU64::Value {
-            value: count,
-            next: p,
-        } => match run_ids(s, p, count, check, rows) {
-            Run::Refused(e) => Found::Refused(e),
-            Run::Next(_) => rowed(Message::Ids { count }, 0, count as usize, 0),
-        },
+    let Number(count, p) = match get_u64(s, 0) {
+        ReadU64::Refused(e) => return Found::Refused(e),
+        ReadU64::Value { value, next } => Number(value, next),
+    };
+    match run_ids(s, p, count, check, rows) {
+        Run::Refused(e) => Found::Refused(e),
+        Run::Next(_) => rowed(Message::Ids { count }, 0, count as usize, 0),
     }
 }
 

@@ -22,6 +22,9 @@ use varint::store::store_number;
 use varint::text::ReadText;
 use varint::{ReadU64, get_u64};
 
+// A fact's id is its type's, of 24 bits, before its sequence, of 40 bits.
+const SEQUENCE_BITS: u32 = 40;
+
 // The places past a row without nodes: in the bytes and in the text.
 #[derive(Clone, Copy)]
 pub(crate) enum Flat {
@@ -314,7 +317,7 @@ fn read_id(s: &[u8], at: usize, check: bool, t: usize, rows: &mut [u64], r: usiz
 fn bad_fact(predicate: u64, sequence: u64) -> Refusal
     ensures { result ≡ bad_fact (predicate, sequence) }
 {
-    Refusal::BadFactId((predicate << 40) | sequence)
+    Refusal::BadFactId((predicate << SEQUENCE_BITS) | sequence)
 }
 
 // Both halves are read before either is looked at.

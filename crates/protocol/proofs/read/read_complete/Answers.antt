@@ -8,7 +8,7 @@ use Rattle.protocol.proofs.read.read_complete.Goals as goal
 
 pub returns-then-end-s : goal.returns-then-end-s
 unfolding read_complete
-returns-then-end-s c = rw c.left_over.ensures (bare_refused (rw ((sym c.get_u64.ensures ∙ c.in-Value.is), (sym c.get_u64-in-Value.ensures ∙ c.in-Value-get_u64.is), lt-ltb _ _ c.if-end-s.true)))
+returns-then-end-s c = rw c.left_over.ensures (bare_refused (rw ((sym c.get_u64.ensures ∙ c.in-Value.is), (sym c.get_u64-2.ensures ∙ c.in-Value-get_u64.is), lt-ltb _ _ c.if-end-s.true)))
 
 pub returns-in-Refused : goal.returns-in-Refused
 unfolding read_complete
@@ -16,8 +16,8 @@ returns-in-Refused c = bare_refused (rw (sym c.get_u64.ensures ∙ c.in-Refused.
 
 pub returns-in-Refused-get_u64 : goal.returns-in-Refused-get_u64
 unfolding read_complete
-returns-in-Refused-get_u64 c = bare_refused (rw ((sym c.get_u64.ensures ∙ c.in-Value.is), sym c.get_u64-in-Value.ensures ∙ c.in-Refused-get_u64.is))
+returns-in-Refused-get_u64 c = bare_refused (rw ((sym c.get_u64.ensures ∙ c.in-Value.is), sym c.get_u64-2.ensures ∙ c.in-Refused-get_u64.is))
 
-pub returns-else-end-s : goal.returns-else-end-s
+pub returns : goal.returns
 unfolding read_complete lay_complete
-returns-else-end-s c = bare_read (ap (laid_as lay_complete) (complete_read c.args.s.now (sym c.get_u64.ensures ∙ c.in-Value.is) (sym c.get_u64-in-Value.ensures ∙ c.in-Value-get_u64.is) c.if-end-s.false)) c.plain.ensures
+returns c = bare_read (ap (laid_as lay_complete) (complete_read c.args.s.now (sym c.get_u64.ensures ∙ c.in-Value.is) (sym c.get_u64-2.ensures ∙ c.in-Value-get_u64.is) c.if-end-s.false)) c.plain.ensures

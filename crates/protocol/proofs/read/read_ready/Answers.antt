@@ -8,11 +8,11 @@ use Rattle.protocol.proofs.read.read_ready.Goals as goal
 
 pub returns-then-end-s : goal.returns-then-end-s
 unfolding read_ready
-returns-then-end-s c = rw c.left_over.ensures (bare_refused (rw ((sym c.get_u64.ensures ∙ c.in-Value.is), (sym c.get_u64-in-Value.ensures ∙ c.in-Value-get_u64.is), (sym c.get_u64-in-Value-get_u64.ensures ∙ c.in-Value-get_u64-2.is), lt-ltb _ _ c.if-end-s.true)))
+returns-then-end-s c = rw c.left_over.ensures (bare_refused (rw ((sym c.get_u64.ensures ∙ c.in-Value.is), (sym c.get_u64-2.ensures ∙ c.in-Value-get_u64.is), (sym c.get_u64-3.ensures ∙ c.in-Value-get_u64-2.is), lt-ltb _ _ c.if-end-s.true)))
 
-pub returns-then-version-gt4294967295 : goal.returns-then-version-gt4294967295
+pub returns-then-version-gt-MAX_U32 : goal.returns-then-version-gt-MAX_U32
 unfolding read_ready
-returns-then-version-gt4294967295 c = bare_refused (rw ((sym c.get_u64.ensures ∙ c.in-Value.is), (sym c.get_u64-in-Value.ensures ∙ c.in-Value-get_u64.is), (sym c.get_u64-in-Value-get_u64.ensures ∙ c.in-Value-get_u64-2.is), le-ltb _ _ c.if-end-s.false, lt-leb _ _ c.if-version-gt4294967295.true))
+returns-then-version-gt-MAX_U32 c = bare_refused (rw ((sym c.get_u64.ensures ∙ c.in-Value.is), (sym c.get_u64-2.ensures ∙ c.in-Value-get_u64.is), (sym c.get_u64-3.ensures ∙ c.in-Value-get_u64-2.is), le-ltb _ _ c.if-end-s.false, lt-leb _ _ c.if-version-gt-MAX_U32.true))
 
 pub returns-in-Refused : goal.returns-in-Refused
 unfolding read_ready
@@ -20,12 +20,12 @@ returns-in-Refused c = bare_refused (rw (sym c.get_u64.ensures ∙ c.in-Refused.
 
 pub returns-in-Refused-get_u64 : goal.returns-in-Refused-get_u64
 unfolding read_ready
-returns-in-Refused-get_u64 c = bare_refused (rw ((sym c.get_u64.ensures ∙ c.in-Value.is), sym c.get_u64-in-Value.ensures ∙ c.in-Refused-get_u64.is))
+returns-in-Refused-get_u64 c = bare_refused (rw ((sym c.get_u64.ensures ∙ c.in-Value.is), sym c.get_u64-2.ensures ∙ c.in-Refused-get_u64.is))
 
 pub returns-in-Refused-get_u64-2 : goal.returns-in-Refused-get_u64-2
 unfolding read_ready
-returns-in-Refused-get_u64-2 c = bare_refused (rw ((sym c.get_u64.ensures ∙ c.in-Value.is), (sym c.get_u64-in-Value.ensures ∙ c.in-Value-get_u64.is), sym c.get_u64-in-Value-get_u64.ensures ∙ c.in-Refused-get_u64-2.is))
+returns-in-Refused-get_u64-2 c = bare_refused (rw ((sym c.get_u64.ensures ∙ c.in-Value.is), (sym c.get_u64-2.ensures ∙ c.in-Value-get_u64.is), sym c.get_u64-3.ensures ∙ c.in-Refused-get_u64-2.is))
 
-pub returns-else-version-gt4294967295 : goal.returns-else-version-gt4294967295
+pub returns : goal.returns
 unfolding read_ready lay_ready
-returns-else-version-gt4294967295 c = bare_read (ap (laid_as lay_ready) (ready_read c.args.s.now (sym c.get_u64.ensures ∙ c.in-Value.is) (sym c.get_u64-in-Value.ensures ∙ c.in-Value-get_u64.is) (sym c.get_u64-in-Value-get_u64.ensures ∙ c.in-Value-get_u64-2.is) c.if-end-s.false c.if-version-gt4294967295.false)) c.plain.ensures
+returns c = bare_read (ap (laid_as lay_ready) (ready_read c.args.s.now (sym c.get_u64.ensures ∙ c.in-Value.is) (sym c.get_u64-2.ensures ∙ c.in-Value-get_u64.is) (sym c.get_u64-3.ensures ∙ c.in-Value-get_u64-2.is) c.if-end-s.false c.if-version-gt-MAX_U32.false)) c.plain.ensures
