@@ -112,7 +112,7 @@ pub fn put_number(out: &mut [u8], at: usize, v: u64) -> usize
     plus(at, n)
 }
 
-// The same for a number that mostly has one byte, as a tag, a count or a name's length: that takes no call.
+// The same for a number that mostly has one byte, as a count, a predicate or a name's length: that takes no call.
 fn put_small(out: &mut [u8], at: usize, v: u64) -> usize
     ensures { record { out = out.new; place = result } ≡ put_number v (record { out = out.old; place = at }) }
 {
