@@ -21,11 +21,11 @@ pub fn bench_copy(src: &[u8], dst: &mut [u8])
 pub fn bench_clear_bytes(out: &mut [u8])
     ensures { out.new ≡ clear_from out.old 0 }
 {
-    varint::store::clear_bytes(out, 0);
+    varint::store::fill_from(out, 0, 0);
 }
 
 pub fn bench_clear_numbers(out: &mut [u64])
     ensures { out.new ≡ clear_from out.old 0 }
 {
-    varint::store::clear_numbers(out, 0);
+    varint::store::fill_from(out, 0, 0);
 }

@@ -7,9 +7,9 @@ use native.Mathlib.Omega.{arith}
 use lib.Dec.{ltb, eqb}
 use lib.ListN.{length, get_or, drop}
 use Rattle.varint.specs.Leb128.{read_from, get_u64}
-use Rattle.varint.specs.declared.ReadU64.TheVariants.{Value}
 use Rattle.varint.proofs.ReadLaws.{more, end_value, read_at, weight_8, payload, next_weight}
 use Rattle.varint.proofs.VarintLaws.{last_below}
+use Rattle.std.specs.Prelude.{Ok}
 
 -- After i bytes of the varint at place `at` the loop is at place p: their value, and the weight of the next byte.
 pub record Going (s : List ℕ) (at value unit i p : ℕ) : Type 0 where
@@ -21,6 +21,9 @@ pub record Going (s : List ℕ) (at value unit i p : ℕ) : Type 0 where
 pub going_start : (s : List ℕ) (at : ℕ) → Going s at 0 1 0 at
 unfolding get_u64
 going_start s at = record { nine = omega arith; same = refl; power = refl; low = omega arith }
+
+pub going_from : (s : List ℕ) (at : ℕ) → Going s at 0 1 (at - at) at
+going_from s at = let e : at - at ≡ 0 = omega arith in rw e (going_start s at)
 
 module _ {s : List ℕ} {at value unit i p : ℕ} (g : Going s at value unit i p) where
   -- what a payload adds, before the tenth byte
@@ -35,7 +38,7 @@ module _ {s : List ℕ} {at value unit i p : ℕ} (g : Going s at value unit i p
 
   -- a last byte that is not refused
   pub going_last : p < length s → {b : ℕ} → b ≡ get_or s p 0 → b < 128 → (ltb 0 i && eqb b 0) ≡ false → (eqb i 9 && ltb 1 b) ≡ false
-      → get_u64 s at ≡ Value (value + b * unit) (p + 1)
+      → get_u64 s at ≡ Ok (value + b * unit, p + 1)
   going_last h {b} e small t u = going_at h e ∙ end_value b (drop (p + 1) s) p i value small t u ∙ rw g.power
 
   pub going_last_fits : {b : ℕ} → b < 128 → (eqb i 9 && ltb 1 b) ≡ false → value + b * unit < 2 ^ 64
@@ -57,3 +60,8 @@ module _ {s : List ℕ} {at value unit i p : ℕ} (g : Going s at value unit i p
         power = next_weight i g.power;
         low = (going_fits (b - 128) d n).0;
       }
+
+  -- the same where i is counted by the places
+  pub going_next : i ≡ p - at → at ≤ p → p < length s → {b : ℕ} → b ≡ get_or s p 0 → b < 256 → 128 ≤ b → (i ≡ 9 → ⊥)
+      → Going s at (value + (b - 128) * unit) (unit * 128) (p + 1 - at) (p + 1)
+  going_next c o h e byte big n = let k : p + 1 - at ≡ i + 1 = omega arith in rw k (going_more h e byte big n)

@@ -15,11 +15,13 @@ use Rattle.varint.specs.RoundTrips.{Bytes}
 use Rattle.varint.specs.Stores.{part}
 use Rattle.varint.specs.declared.error.Refusal.{Refusal}
 use Rattle.varint.specs.declared.error.Refusal.TheVariants.{UnexpectedEof}
-use Rattle.varint.specs.declared.ReadU64.{ReadU64}
-use Rattle.varint.specs.declared.ReadU64.TheVariants.{Value, Refused}
-use Rattle.varint.proofs.Basics.{pick_cases}
+use Rattle.varint.proofs.Basics.{pick_cases, test}
+use Rattle.varint.specs.Inner.Taking.{taken}
+use Rattle.varint.proofs.Gots.{no_got, got_of, bad_of}
 use Rattle.varint.proofs.StoreLaws.{part_add, part_seam}
 use Rattle.varint.proofs.VarintLaws.{part_bytes}
+use Rattle.std.specs.Prelude.{Ok, Err}
+use Rattle.varint.specs.Got.{Got, got}
 
 -- Digits
 
@@ -86,53 +88,63 @@ part_size : (s : List ℕ) (at w : ℕ) → w ≤ length s - at → length (part
 unfolding part
 part_size s at w h = length-take-le w (drop at s) (rw length-drop h)
 
-pub get_le_value : (w : ℕ) (s : List ℕ) (at : ℕ) → w ≤ length s - at → get_le w s at ≡ Value (le (part s at w)) (at + w)
+pub get_le_value : (w : ℕ) (s : List ℕ) (at : ℕ) → w ≤ length s - at → get_le w s at ≡ Ok ((le (part s at w)), at + w)
 unfolding get_le
 get_le_value w s at h = rw (le-ltb (length s - at) w h)
 
-pub get_le_short : (w : ℕ) (s : List ℕ) (at : ℕ) → length s - at < w → get_le w s at ≡ Refused UnexpectedEof
+pub get_le_short : (w : ℕ) (s : List ℕ) (at : ℕ) → length s - at < w → get_le w s at ≡ Err UnexpectedEof
 unfolding get_le
 get_le_short w s at h = rw (lt-ltb (length s - at) w h)
 
-apart : {X : Type 0} {r : Refusal} {n next : ℕ} → Refused r ≡ Value n next → X
+apart : {X : Type 0} {r : Refusal} {n next : ℕ} → Err r ≡ got n next → X
 apart e = let z : ◌≡◌ {A = ℕ} 0 1 = cc in absurd (omega arith)
 
-pub get_le_field : (w : ℕ) (s : List ℕ) (at n next : ℕ) → get_le w s at ≡ Value n next → Field w s at n next
+pub get_le_field : (w : ℕ) (s : List ℕ) (at n next : ℕ) → get_le w s at ≡ Ok (n, next) → Field w s at n next
 unfolding get_le
 get_le_field w s at n next e =
-    pick_cases (λ (x : ReadU64). x ≡ Value n next → Field w s at n next) (ltb (length s - at) w)
+    pick_cases (λ (x : Got ℕ). x ≡ Ok (n, next) → Field w s at n next) (ltb (length s - at) w)
     (λ _ f. apart f)
     (λ t f.
     let h : w ≤ length s - at = ltb-false (length s - at) w t in
-    record { room = h; value = cc (f); place = cc (f); size = part_size s at w h })
+    let z = got_of f in
+    record { room = h; value = sym z.0; place = sym z.1; size = part_size s at w h })
     e
 
+-- a field is the number of its bytes
+pub get_le_got : (w : ℕ) (s : List ℕ) (at : ℕ) {b : List ℕ} {q : ℕ} → taken w s at ≡ Ok (b, q) → get_le w s at ≡ Ok (le b, q)
+unfolding get_le
+get_le_got w s at {b} {q} e = test (ltb (length s - at) w) (λ t. no_got (rw t at e)) (λ t. let z = got_of (rw t at e) in rw (t, ← z.0, ← z.1))
+
+pub get_le_bad : (w : ℕ) (s : List ℕ) (at : ℕ) {r : Refusal} → taken w s at ≡ Err r → get_le w s at ≡ Err r
+unfolding get_le
+get_le_bad w s at {r} e = test (ltb (length s - at) w) (λ t. let k : UnexpectedEof ≡ r = bad_of (rw t at e) in rw (t, k)) (λ t. no_got (sym (rw t at e)))
+
 -- only a list that is too short is refused
-pub get_le_refused : (w : ℕ) (s : List ℕ) (at : ℕ) (r : Refusal) → get_le w s at ≡ Refused r → length s - at < w
+pub get_le_refused : (w : ℕ) (s : List ℕ) (at : ℕ) (r : Refusal) → get_le w s at ≡ Err r → length s - at < w
 unfolding get_le
 get_le_refused w s at r e =
-    pick_cases (λ (x : ReadU64). x ≡ Refused r → length s - at < w) (ltb (length s - at) w)
+    pick_cases (λ (x : Got ℕ). x ≡ Err r → length s - at < w) (ltb (length s - at) w)
     (λ t f. ltb-true (length s - at) w t)
     (λ _ f. apart (sym f))
     e
 
-pub get_le_ends : (w : ℕ) (s : List ℕ) (at n next : ℕ) → at ≤ length s → get_le w s at ≡ Value n next
+pub get_le_ends : (w : ℕ) (s : List ℕ) (at n next : ℕ) → at ≤ length s → get_le w s at ≡ Ok (n, next)
     → (next ≡ at + w) × (next ≤ length s)
 get_le_ends w s at n next h e = let x = get_le_field w s at n next e in (x.place, omega arith)
 
 -- reading what was written, wherever it stands
 pub get_le_put : (w n : ℕ) (before rest : List ℕ) → n < 256 ^ w
-    → get_le w (before ++ (put_le w n ++ rest)) (length before) ≡ Value n (length before + w)
+    → get_le w (before ++ (put_le w n ++ rest)) (length before) ≡ Ok (n, length before + w)
 get_le_put w n before rest h =
     let l : length (put_le w n) ≡ w = length_put_le w n in
     let room : w ≤ length (before ++ (put_le w n ++ rest)) - length before = simp length-append (omega arith) in
     let e : part (before ++ (put_le w n ++ rest)) (length before) w ≡ put_le w n =
     ap (part (before ++ (put_le w n ++ rest)) (length before)) (sym l) ∙ part_seam before (put_le w n) rest in
     get_le_value w (before ++ (put_le w n ++ rest)) (length before) room
-    ∙ ap (λ (m : ℕ). Value m (length before + w)) (ap le e ∙ le_put_le w n h)
+    ∙ ap (λ (m : ℕ). Ok (m, length before + w)) (ap le e ∙ le_put_le w n h)
 
 -- Of a list of bytes only the digits of n are read as n, and w of them are below 256 ^ w.
-module _ (w : ℕ) (s : List ℕ) (at n next : ℕ) (B : Bytes s) (e : get_le w s at ≡ Value n next) where
+module _ (w : ℕ) (s : List ℕ) (at n next : ℕ) (B : Bytes s) (e : get_le w s at ≡ Ok (n, next)) where
   pub get_le_unique : part s at w ≡ put_le w n
   get_le_unique = let x = get_le_field w s at n next e in rw x.value (sym (put_le_le w (part s at w) (part_bytes s at w B) x.size))
 
@@ -140,8 +152,8 @@ module _ (w : ℕ) (s : List ℕ) (at n next : ℕ) (B : Bytes s) (e : get_le w 
   get_le_bound = let x = get_le_field w s at n next e in rw x.value (rw x.size at (le_bound (part s at w) (part_bytes s at w B)))
 
 -- A field in two halves: the first of v bytes, the second of w.
-pub get_le_halves : (v w : ℕ) (s : List ℕ) (at a m b next : ℕ) → get_le v s at ≡ Value a m → get_le w s m ≡ Value b next
-    → get_le (v + w) s at ≡ Value (a + b * 256 ^ v) next
+pub get_le_halves : (v w : ℕ) (s : List ℕ) (at a m b next : ℕ) → get_le v s at ≡ Ok (a, m) → get_le w s m ≡ Ok (b, next)
+    → get_le (v + w) s at ≡ Ok (a + b * 256 ^ v, next)
 get_le_halves v w s at a m b next e f =
     let x = get_le_field v s at a m e in
     let y = get_le_field w s m b next f in
@@ -150,14 +162,3 @@ get_le_halves v w s at a m b next e f =
     let q : at + (v + w) ≡ next = omega arith in
     get_le_value (v + w) s at room
     ∙ rw (part_add, p, le_append (part s at v) (part s m w), x.size, q) (rw (x.value, y.value))
-
--- where a half is short, the whole is
-pub get_le_first_short : (v w : ℕ) (s : List ℕ) (at : ℕ) (r : Refusal) → get_le v s at ≡ Refused r
-    → get_le (v + w) s at ≡ Refused UnexpectedEof
-get_le_first_short v w s at r e = get_le_short (v + w) s at (omega (arith, get_le_refused v s at r e))
-
-pub get_le_second_short : (v w : ℕ) (s : List ℕ) (at a m : ℕ) (r : Refusal) → get_le v s at ≡ Value a m → get_le w s m ≡ Refused r
-    → get_le (v + w) s at ≡ Refused UnexpectedEof
-get_le_second_short v w s at a m r e f =
-    let x = get_le_field v s at a m e in
-    get_le_short (v + w) s at (omega (arith, get_le_refused w s m r f))

@@ -5,23 +5,22 @@ use Prim.Native.Nat.{ℕ, zero, suc, ◌+◌, ◌*◌, ◌≤◌}
 use native.Mathlib.Nat.{suc-mul}
 use native.Mathlib.Omega.{arith}
 use lib.ListN.{length}
-use Rattle.varint.specs.Fixed.{get_le}
-use Rattle.varint.specs.Formats.{got, Format, varint, fixed, text, name, ◌⊗◌, named, counted}
-use Rattle.varint.specs.Leb128.{get_u64}
+use Rattle.varint.specs.Formats.{Format, varint, fixed, text, name, ◌⊗◌, named, counted}
 use Rattle.varint.specs.Texts.{get_name}
 use Rattle.varint.proofs.FixedLaws.{get_le_ends}
-use Rattle.varint.proofs.FormatParts.{number_got, pair_went, named_went, times, times_zero, times_suc, times_length, counted_went, num_inside, text_inside, text_got}
+use Rattle.varint.proofs.FormatParts.{pair_went, named_went, times, times_zero, times_suc, times_length, counted_went, num_inside, text_inside, text_got}
+use Rattle.std.specs.Prelude.{Ok}
 
 -- w a bytes and at least k bytes besides
 pub record Ends {A : Type 0} (f : Format A) (w : A → ℕ) (k : ℕ) : Type 0 where
-  pub ends : (s : List ℕ) (at : ℕ) (a : A) (q : ℕ) → at ≤ length s → f.read s at ≡ got a q
+  pub ends : (s : List ℕ) (at : ℕ) (a : A) (q : ℕ) → at ≤ length s → f.read s at ≡ Ok (a, q)
       → (at + (w a + k) ≤ q) × (q ≤ length s)
 
 pub varint_ends : Ends varint (λ n. 0) 1
-varint_ends = record { ends = λ s at n q h e. let i = num_inside s at n q (number_got (get_u64 s at) n q e) in (omega arith, i.1) }
+varint_ends = record { ends = λ s at n q h e. let i = num_inside s at n q e in (omega arith, i.1) }
 
 pub fixed_ends : (w : ℕ) → Ends (fixed w) (λ n. 0) w
-fixed_ends w = record { ends = λ s at n q h e. let i = get_le_ends w s at n q h (number_got (get_le w s at) n q e) in (omega arith, i.1) }
+fixed_ends w = record { ends = λ s at n q h e. let i = get_le_ends w s at n q h e in (omega arith, i.1) }
 
 pub text_ends : Ends text length 1
 text_ends =

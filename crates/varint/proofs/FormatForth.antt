@@ -5,17 +5,17 @@ use Prim.Native.Nat.{ℕ, zero, suc, ◌+◌, ◌-◌, ◌≤◌}
 use native.Mathlib.Omega.{arith}
 use lib.ListN.{length, drop, length-append, take-append-drop}
 use lib.Seq.{drop-drop}
-use Rattle.varint.specs.Fixed.{get_le, put_le}
+use Rattle.varint.specs.Fixed.{put_le}
 use Rattle.varint.specs.Formats.{Format, varint, fixed, text, name, ◌⊗◌, named, print_all, counted}
 use Rattle.varint.specs.Leb128.{get_u64, put_u64}
 use Rattle.varint.specs.RoundTrips.{Bytes, Stands, Forth}
 use Rattle.varint.specs.Stores.{part}
 use Rattle.varint.specs.Texts.{get_name}
-use Rattle.varint.specs.declared.ReadU64.TheVariants.{Value}
 use Rattle.varint.proofs.FixedLaws.{get_le_ends, get_le_unique}
-use Rattle.varint.proofs.FormatParts.{number_got, pair_went, named_went, times, times_zero, times_suc, times_length, counted_went, num_inside, text_at, text_inside, text_got}
+use Rattle.varint.proofs.FormatParts.{pair_went, named_went, times, times_zero, times_suc, times_length, counted_went, num_inside, text_at, text_inside, text_got}
 use Rattle.varint.proofs.StoreLaws.{length_part}
 use Rattle.varint.proofs.VarintLaws.{get_unique}
+use Rattle.std.specs.Prelude.{Ok}
 
 -- a part of a list stands in it
 pub part_stands : (s : List ℕ) (at n q : ℕ) (x : List ℕ) → at + n ≡ q → q ≤ length s → part s at n ≡ x → Stands x s at q
@@ -34,21 +34,20 @@ joined x y s at p q i j =
       inside = j.inside;
     }
 
-number_stands : (s : List ℕ) (at n q : ℕ) → Bytes s → get_u64 s at ≡ Value n q → Stands (put_u64 n) s at q
+number_stands : (s : List ℕ) (at n q : ℕ) → Bytes s → get_u64 s at ≡ Ok (n, q) → Stands (put_u64 n) s at q
 number_stands s at n q B e =
     let i = num_inside s at n q e in
     part_stands s at (q - at) q (put_u64 n) (omega arith) i.1 (get_unique s at n q B e)
 
 pub varint_forth : Forth varint
-varint_forth = record { forth = λ s at n q B h e. number_stands s at n q B (number_got (get_u64 s at) n q e) }
+varint_forth = record { forth = λ s at n q B h e. number_stands s at n q B e }
 
 pub fixed_forth : (w : ℕ) → Forth (fixed w)
 fixed_forth w =
     record {
       forth = λ s at n q B h e.
-          let x = number_got (get_le w s at) n q e in
-          let i = get_le_ends w s at n q h x in
-          part_stands s at w q (put_le w n) (sym i.0) i.1 (get_le_unique w s at n q B x);
+          let i = get_le_ends w s at n q h e in
+          part_stands s at w q (put_le w n) (sym i.0) i.1 (get_le_unique w s at n q B e);
     }
 
 pub text_forth : Forth text

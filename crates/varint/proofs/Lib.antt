@@ -3,13 +3,14 @@ pub mod Basics
 pub mod Bits64
 pub mod ByteLoop
 pub mod BytesToTry
-pub mod Clearing
+pub mod Digits
 pub mod FixedLaws
 pub mod FormatBack
 pub mod FormatEnds
 pub mod FormatForth
 pub mod FormatGives
 pub mod FormatParts
+pub mod Gots
 pub mod LentLaws
 pub mod OutLaws
 pub mod PutLaws
@@ -20,5 +21,6 @@ pub mod StoreLaws
 pub mod TextLaws
 pub mod Utf8Grammar
 pub mod Utf8Laws
+pub mod Utf8Std
 pub mod VarintLaws
 pub mod ZigzagLaws

@@ -13,22 +13,22 @@ use lib.Seq.{drop-cons}
 use borrow.Author.Tests.{lt-ltb, le-ltb, ne_eqb, ltb-true, eqb-true}
 use Rattle.varint.specs.Leb128.{read_from, get_u64}
 use Rattle.varint.specs.declared.error.Refusal.TheVariants.{UnexpectedEof, VarintOverflow, VarintNotMinimal}
-use Rattle.varint.specs.declared.ReadU64.{ReadU64}
-use Rattle.varint.specs.declared.ReadU64.TheVariants.{Value, Refused}
 use Rattle.varint.proofs.Basics.{pick_same, pick_both, both, below}
+use Rattle.std.specs.Prelude.{Ok, Err}
+use Rattle.varint.specs.Got.{Got}
 
 -- A byte of each kind, as one equation each: what a proof of the reader cites.
 module _ (b : ℕ) (s : List ℕ) (p i v : ℕ) where
   -- the tenth byte
-  pub tenth_zero : b ≡ 0 → i ≡ 9 → read_from (b ∷ s) p i v ≡ Refused VarintNotMinimal
+  pub tenth_zero : b ≡ 0 → i ≡ 9 → read_from (b ∷ s) p i v ≡ Err VarintNotMinimal
   unfolding read_from
   tenth_zero hb hi = rw (hb, hi)
 
-  pub tenth_one : b ≡ 1 → i ≡ 9 → read_from (b ∷ s) p i v ≡ Value (v + 128 ^ i) (p + 1)
+  pub tenth_one : b ≡ 1 → i ≡ 9 → read_from (b ∷ s) p i v ≡ Ok (v + 128 ^ i, p + 1)
   unfolding read_from
   tenth_one hb hi = rw (hb, hi)
 
-  pub tenth_more : b < 256 → 1 < b → i ≡ 9 → read_from (b ∷ s) p i v ≡ Refused VarintOverflow
+  pub tenth_more : b < 256 → 1 < b → i ≡ 9 → read_from (b ∷ s) p i v ≡ Err VarintOverflow
   unfolding read_from
   tenth_more h hb hi =
       rw hi
@@ -38,15 +38,15 @@ module _ (b : ℕ) (s : List ℕ) (p i v : ℕ) where
       (below b 128))
 
   -- a byte before the tenth
-  pub last_zero : b ≡ 0 → 0 < i → i < 9 → read_from (b ∷ s) p i v ≡ Refused VarintNotMinimal
+  pub last_zero : b ≡ 0 → 0 < i → i < 9 → read_from (b ∷ s) p i v ≡ Err VarintNotMinimal
   unfolding read_from
   last_zero hb hi h9 = rw hb (simp (ne_eqb i 9 (omega arith), lt-ltb 0 i hi))
 
-  pub last_first : i ≡ 0 → b < 128 → read_from (b ∷ s) p i v ≡ Value (v + b * 128 ^ i) (p + 1)
+  pub last_first : i ≡ 0 → b < 128 → read_from (b ∷ s) p i v ≡ Ok (v + b * 128 ^ i, p + 1)
   unfolding read_from
   last_first hi hb = rw hi (simp (lt-ltb b 128 hb))
 
-  pub last_more : b < 128 → 0 < b → i < 9 → read_from (b ∷ s) p i v ≡ Value (v + b * 128 ^ i) (p + 1)
+  pub last_more : b < 128 → 0 < b → i < 9 → read_from (b ∷ s) p i v ≡ Ok (v + b * 128 ^ i, p + 1)
   unfolding read_from
   last_more hb h0 h9 = simp (ne_eqb i 9 (omega arith), lt-ltb b 128 hb, ne_eqb b 0 (omega arith), and-false)
 
@@ -55,17 +55,17 @@ module _ (b : ℕ) (s : List ℕ) (p i v : ℕ) where
   more hb h9 = simp (ne_eqb i 9 (omega arith), le-ltb b 128 hb)
 
   -- a last byte, by the tests themselves
-  pub end_zero : i ≤ 9 → (ltb 0 i && eqb b 0) ≡ true → read_from (b ∷ s) p i v ≡ Refused VarintNotMinimal
+  pub end_zero : i ≤ 9 → (ltb 0 i && eqb b 0) ≡ true → read_from (b ∷ s) p i v ≡ Err VarintNotMinimal
   end_zero h t =
       let t' = both (ltb 0 i) (eqb b 0) t in
       let z : b ≡ 0 = eqb-true b 0 t'.1 in
       let k : 0 < i = ltb-true 0 i t'.0 in
       ⊎_elim (λ (l : i < 9). last_zero z k l) (λ (l : 9 ≤ i). tenth_zero z (omega arith)) (below i 9)
 
-  pub end_over : b < 256 → (eqb i 9 && ltb 1 b) ≡ true → read_from (b ∷ s) p i v ≡ Refused VarintOverflow
+  pub end_over : b < 256 → (eqb i 9 && ltb 1 b) ≡ true → read_from (b ∷ s) p i v ≡ Err VarintOverflow
   end_over h t = let t' = both (eqb i 9) (ltb 1 b) t in tenth_more h (ltb-true 1 b t'.1) (eqb-true i 9 t'.0)
 
-  pub end_value : b < 128 → (ltb 0 i && eqb b 0) ≡ false → (eqb i 9 && ltb 1 b) ≡ false → read_from (b ∷ s) p i v ≡ Value (v + b * 128 ^ i) (p + 1)
+  pub end_value : b < 128 → (ltb 0 i && eqb b 0) ≡ false → (eqb i 9 && ltb 1 b) ≡ false → read_from (b ∷ s) p i v ≡ Ok (v + b * 128 ^ i, p + 1)
   unfolding read_from
   end_value h t u = let e : b % 128 ≡ b = omega arith in simp (e, lt-ltb b 128 h, t, u)
 
@@ -74,10 +74,10 @@ pub read_at : (s : List ℕ) (p i v : ℕ) → p < length s → read_from (drop 
 read_at s p i v h = rw (add-one, drop-cons s p 0)
 
 -- a varint of one byte
-pub get_one : (s : List ℕ) (at : ℕ) {b : ℕ} → at < length s → b ≡ get_or s at 0 → b < 128 → get_u64 s at ≡ Value b (at + 1)
+pub get_one : (s : List ℕ) (at : ℕ) {b : ℕ} → at < length s → b ≡ get_or s at 0 → b < 128 → get_u64 s at ≡ Ok (b, at + 1)
 unfolding get_u64
 get_one s at {b} h e l =
-    read_at s at 0 0 h ∙ rw (← e) (last_first b (drop (at + 1) s) at 0 0 refl l ∙ ap (λ (v : ℕ). Value v (at + 1)) (omega arith))
+    read_at s at 0 0 h ∙ rw (← e) (last_first b (drop (at + 1) s) at 0 0 refl l ∙ ap (λ (v : ℕ). Ok (v, at + 1)) (omega arith))
 
 -- a byte that is not the last, and one that is, of those in between
 module _ (s : List ℕ) (p i v : ℕ) {b : ℕ} (h : p < length s) (e : b ≡ get_or s p 0) where
@@ -86,7 +86,7 @@ module _ (s : List ℕ) (p i v : ℕ) {b : ℕ} (h : p < length s) (e : b ≡ ge
       let m : b % 128 ≡ b - 128 = omega arith in
       rw (← m) (read_at s p i v h ∙ rw (← e) (more b (drop (p + 1) s) p i v l h9))
 
-  read_last : b < 128 → 0 < b → i < 9 → read_from (drop p s) p i v ≡ Value (v + b * 128 ^ i) (p + 1)
+  read_last : b < 128 → 0 < b → i < 9 → read_from (drop p s) p i v ≡ Ok (v + b * 128 ^ i, p + 1)
   read_last l u h9 = read_at s p i v h ∙ rw (← e) (last_more b (drop (p + 1) s) p i v l u h9)
 
 -- a varint of two bytes or three
@@ -95,15 +95,15 @@ module _ (s : List ℕ) (at : ℕ) {b c : ℕ} (h : at + 3 ≤ length s) (eb : b
   unfolding get_u64
   first = read_on s at 0 0 (omega arith) eb lb ub (lit< tt)
 
-  pub get_two : c < 128 → 0 < c → get_u64 s at ≡ Value (b - 128 + c * 128) (at + 2)
+  pub get_two : c < 128 → 0 < c → get_u64 s at ≡ Ok (b - 128 + c * 128, at + 2)
   get_two l u =
       first
       ∙ read_last s (at + 1) 1 (0 + (b - 128) * 128 ^ 0) (omega arith) ec l u (lit< tt)
-      ∙ ap (λ (v : ℕ). Value v (at + 1 + 1)) (omega arith)
-      ∙ ap (λ (q : ℕ). Value (b - 128 + c * 128) q) (omega arith)
+      ∙ ap (λ (v : ℕ). Ok (v, at + 1 + 1)) (omega arith)
+      ∙ ap (λ (q : ℕ). Ok (b - 128 + c * 128, q)) (omega arith)
 
   pub get_three : {d : ℕ} → 128 ≤ c → c < 256 → d ≡ get_or s (at + 2) 0 → d < 128 → 0 < d
-      → get_u64 s at ≡ Value (b - 128 + (c - 128) * 128 + d * 16384) (at + 3)
+      → get_u64 s at ≡ Ok ((b - 128 + (c - 128) * 128 + d * 16384), at + 3)
   get_three {d} l u ed ld ud =
       let v₁ = 0 + (b - 128) * 128 ^ 0 in
       let v₂ = v₁ + (c - 128) * 128 ^ 1 in
@@ -111,10 +111,10 @@ module _ (s : List ℕ) (at : ℕ) {b c : ℕ} (h : at + 3 ≤ length s) (eb : b
       first
       ∙ read_on s (at + 1) 1 v₁ (omega arith) ec l u (lit< tt)
       ∙ read_last s (at + 1 + 1) 2 v₂ (omega arith) ed' ld ud (lit< tt)
-      ∙ ap (λ (v : ℕ). Value v (at + 1 + 1 + 1)) (omega arith)
-      ∙ ap (λ (q : ℕ). Value (b - 128 + (c - 128) * 128 + d * 16384) q) (omega arith)
+      ∙ ap (λ (v : ℕ). Ok (v, at + 1 + 1 + 1)) (omega arith)
+      ∙ ap (λ (q : ℕ). Ok ((b - 128 + (c - 128) * 128 + d * 16384), q)) (omega arith)
 
-pub read_end : (s : List ℕ) (p i v : ℕ) → length s ≤ p → read_from (drop p s) p i v ≡ Refused UnexpectedEof
+pub read_end : (s : List ℕ) (p i v : ℕ) → length s ≤ p → read_from (drop p s) p i v ≡ Err UnexpectedEof
 unfolding read_from
 read_end s p i v h = rw (drop_of_length-le s h)
 
@@ -132,15 +132,15 @@ pub next_weight : (i : ℕ) {u : ℕ} → u ≡ 128 ^ i → u * 128 ≡ 128 ^ (i
 next_weight i e = rw (add-one, pow-suc, e)
 
 -- where a varint ends: past the place lo, and at most at hi
-abbrev pub Ends : ℕ → ℕ → ReadU64 → Type 0
-Ends lo hi (Value n next) = (lo < next) × (next ≤ hi)
-Ends lo hi (Refused r) = Unit
+abbrev pub Ends : ℕ → ℕ → Got ℕ → Type 0
+Ends lo hi (Ok (n, next)) = (lo < next) × (next ≤ hi)
+Ends lo hi (Err r) = Unit
 
 read_ends : (x : List ℕ) (p lo i v : ℕ) → lo ≤ p → Ends lo (p + length x) (read_from x p i v)
 unfolding read_from
 read_ends [] p lo i v h = tt
 read_ends (b ∷ s) p lo i v h =
-    let P : ReadU64 → Type 0 = Ends lo (p + suc (length s)) in
+    let P : Got ℕ → Type 0 = Ends lo (p + suc (length s)) in
     let e : p + 1 + length s ≡ p + suc (length s) = omega arith in
     let ih : P (read_from s (p + 1) (i + 1) (v + b % 128 * 128 ^ i)) = rw e at (read_ends s (p + 1) lo (i + 1) (v + b % 128 * 128 ^ i) (omega arith)) in
     pick_both P (eqb i 9 && ltb 1 (b % 128)) tt

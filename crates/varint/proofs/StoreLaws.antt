@@ -8,9 +8,9 @@ use native.Mathlib.Omega.{arith}
 use native.Mathlib.Nat.{add-zero, zero-add, sub-zero}
 use native.Mathlib.Numerals.{add-one, sub-one}
 use lib.ListN.{length, get_or, take, drop, set, replicate, length-drop, length-set, length-replicate, drop_of_length-le}
-use lib.Seq.{sets, sets-eq, length-sets, set_out, set-set, set_comm, drop-cons, take_all, take-length, take-take, take-add, take-append_seam, drop-append_seam, drop-drop, length-take-le, get_or-take, get_or-drop}
+use lib.Seq.{sets, sets-eq, length-sets, set_out, set-set, set_comm, drop-cons, take_all, take-length, take-take, take-add, take-append_seam, drop-append_seam, drop-drop, length-take-le}
 use borrow.Author.Tests.{lt-ltb, le-ltb}
-use Rattle.varint.specs.Stores.{part, clear_from, filled}
+use Rattle.varint.specs.Stores.{part, fill_from, clear_from, filled}
 use Rattle.varint.proofs.Basics.{below}
 
 -- Parts
@@ -39,10 +39,6 @@ pub length_part : (s : List ℕ) (from n : ℕ) → from + n ≤ length s → le
 unfolding part
 length_part s from n h = length-take-le n (drop from s) (rw length-drop (omega arith))
 
-pub get_d_part : (s : List ℕ) (from n i : ℕ) → i < n → get_or (part s from n) i 0 ≡ get_or s (from + i) 0
-unfolding part
-get_d_part s from n i h = rw (get_or-take, get_or-drop)
-
 -- a part ends where the list ends
 pub part_clip : (s : List ℕ) (from n : ℕ) → part s from n ≡ part s from (min n (length s - from))
 unfolding part
@@ -56,14 +52,6 @@ part_clip s from n =
     let b : length (drop from s) ≤ length s - from = omega arith in
     rw (e, take_all n (drop from s) a, take_all (length s - from) (drop from s) b))
     (below n (length s - from))
-
--- the element at place j of a part, and what follows it
-pub part_step : (s : List ℕ) (from n j : ℕ) → from + n ≤ length s → j < n
-    → part s (from + j) (n - j) ≡ get_or s (from + j) 0 ∷ part s (from + (j + 1)) (n - (j + 1))
-part_step s from n j h l =
-    let e : from + j + 1 ≡ from + (j + 1) = omega arith in
-    let f : n - j - 1 ≡ n - (j + 1) = omega arith in
-    part_cons s (from + j) (n - j) (omega arith) (omega arith) ∙ rw (e, f)
 
 -- two parts in a row are one
 pub part_add : (s : List ℕ) (from m n : ℕ) → part s from (m + n) ≡ part s from m ++ part s (from + m) n
@@ -190,7 +178,7 @@ sets_zeros x n h =
 
 -- to clear is to store zeros to the end
 pub sets_clear : (d : List ℕ) (at : ℕ) → sets d at (replicate (length d - at) 0) ≡ clear_from d at
-unfolding clear_from
+unfolding fill_from
 sets_clear d at =
     ⊎_elim
     (λ (h : length d < at).
@@ -216,7 +204,7 @@ filled_not d x h = rw (lt-ltb (length d) (length x) h)
 
 -- a buffer is filled by a run from its start, and cleared behind it
 pub filled_steps : (d x : List ℕ) → length x ≤ length d → clear_from (sets d 0 x) (length x) ≡ filled d x
-unfolding clear_from
+unfolding fill_from
 filled_steps d x h =
     let room : 0 + length x ≤ length d = omega arith in
     let z : 0 + length x ≡ length x = omega arith in
@@ -225,5 +213,5 @@ filled_steps d x h =
 
 -- or cleared first
 pub filled_cleared : (d x : List ℕ) → length x ≤ length d → sets (clear_from d 0) 0 x ≡ filled d x
-unfolding clear_from
+unfolding fill_from
 filled_cleared d x h = rw (sub-zero, filled_fits d x h) (sets_zeros x (length d) h)

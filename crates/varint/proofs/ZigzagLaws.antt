@@ -13,8 +13,8 @@ use borrow.Author.Tests.{ne_eqb}
 use Rattle.varint.specs.Leb128.{put_u64}
 use Rattle.varint.specs.Stores.{filled}
 use Rattle.varint.specs.Zigzag.{zig, unzig, get_i64}
-use Rattle.varint.specs.declared.signed.ReadI64.TheVariants.{Value}
 use Rattle.varint.proofs.VarintLaws.{get_put, get_filled}
+use Rattle.std.specs.Prelude.{Ok}
 
 pub unzig_even : (u : ℕ) → u % 2 ≡ 0 → unzig u ≡ pos (u / 2)
 unfolding unzig
@@ -53,9 +53,9 @@ unzig_fits u h =
 
 -- reading the zigzag varint that was written gives the number back, wherever it stands
 pub get_put_signed : (z : ℤ) (before rest : List ℕ) → SFits w64 z
-    → get_i64 (before ++ (put_u64 (zig z) ++ rest)) (length before) ≡ Value z (length before + length (put_u64 (zig z)))
+    → get_i64 (before ++ (put_u64 (zig z) ++ rest)) (length before) ≡ Ok (z, (length before + length (put_u64 (zig z))))
 get_put_signed z before rest f = rw (get_put (zig z) before rest (zig_fits z f), unzig_zig z)
 
 -- so from the start of a buffer into which it was written alone
-pub get_filled_signed : (d : List ℕ) (z : ℤ) → SFits w64 z → 10 ≤ length d → get_i64 (filled d (put_u64 (zig z))) 0 ≡ Value z (length (put_u64 (zig z)))
+pub get_filled_signed : (d : List ℕ) (z : ℤ) → SFits w64 z → 10 ≤ length d → get_i64 (filled d (put_u64 (zig z))) 0 ≡ Ok (z, (length (put_u64 (zig z))))
 get_filled_signed d z f room = rw (get_filled d (zig z) (zig_fits z f) room, unzig_zig z)

@@ -1,51 +1,34 @@
 -- Formats: how a thing is read from bytes at a place, and how it is printed. A message's layout is one format, a line a field,
 -- and says both directions at once.
-use Rattle.std.specs.Prelude.{◌≡◌, refl, List, [], ◌∷◌, ◌++◌, ℕ, zero, suc, length}
+use Rattle.std.specs.Prelude.{◌≡◌, refl, List, [], ◌∷◌, ◌++◌, ℕ, zero, suc, length, Ok, Err}
 use Rattle.varint.specs.Fixed.{le, get_le, put_le}
 use Rattle.varint.specs.Leb128.{read_from, get_u64, put_by, put_u64}
 use Rattle.varint.specs.Stores.{part}
 use Rattle.varint.specs.Texts.{skim_text, get_text, get_name}
 use Rattle.varint.specs.Utf8.{utf8, scan, lead}
-use Rattle.varint.specs.declared.error.Refusal.{Refusal}
 use Rattle.varint.specs.declared.error.Refusal.TheVariants.{LengthOutOfRange}
-use Rattle.varint.specs.declared.ReadU64.{ReadU64}
-use Rattle.varint.specs.declared.ReadU64.TheVariants.{Value, Refused as NoValue}
-use Rattle.varint.specs.declared.text.ReadText.{ReadText}
-use Rattle.varint.specs.declared.text.ReadText.TheVariants.{Text, Refused as NoText}
-
--- what is read, with the place after it; or why nothing is
-pub data Got (A : Type 0) : Type 0 where
-  got : A → ℕ → Got A
-  bad : Refusal → Got A
-
--- with what is read, and from the place after it, go on
-abbrev pub then : {A B : Type 0} → Got A → (A → ℕ → Got B) → Got B
-then (got a next) k = k a next
-then (bad r) k = bad r
+use Rattle.varint.specs.Got.{Got, then}
+use Rattle.varint.specs.declared.text.Span.{Span}
 
 pub record Format (A : Type 0) : Type 0 where
   pub read : List ℕ → ℕ → Got A
   pub print : A → List ℕ
 
-abbrev pub got_number : ReadU64 → Got ℕ
-got_number (Value n next) = got n next
-got_number (NoValue r) = bad r
-
 -- a text is its bytes
-abbrev pub got_text : List ℕ → ReadText → Got (List ℕ)
-got_text s (Text start n next) = got (part s start n) next
-got_text s (NoText r) = bad r
+abbrev pub got_text : List ℕ → Got Span → Got (List ℕ)
+got_text s (Ok (t, next)) = Ok (part s t.start t.len, next)
+got_text s (Err r) = Err r
 
 abbrev pub print_text : List ℕ → List ℕ
 print_text t = put_u64 (length t) ++ t
 
 -- a number as a varint
 abbrev pub varint : Format ℕ
-varint = record { read = λ s at. got_number (get_u64 s at); print = put_u64 }
+varint = record { read = λ s at. get_u64 s at; print = put_u64 }
 
 -- a number in w bytes, the least first
 abbrev pub fixed : ℕ → Format ℕ
-fixed w = record { read = λ s at. got_number (get_le w s at); print = put_le w }
+fixed w = record { read = λ s at. get_le w s at; print = put_le w }
 
 -- a free text: queries, schemas, error texts
 abbrev pub text : Format (List ℕ)
@@ -60,18 +43,18 @@ infixr 60 ◌⊗◌
 abbrev pub ◌⊗◌ : {A B : Type 0} → Format A → Format B → Format (A × B)
 ◌⊗◌ f g =
     record {
-      read = λ s at. then (f.read s at) (λ a p. then (g.read s p) (λ b q. got (a, b) q));
+      read = λ s at. then (f.read s at) (λ a p. then (g.read s p) (λ b q. Ok ((a, b), q)));
       print = λ c. f.print c.0 ++ g.print c.1;
     }
 
 -- the same bytes under another name
 abbrev pub named : {A B : Type 0} → (A → B) → (B → A) → Format A → Format B
-named to from f = record { read = λ s at. then (f.read s at) (λ a next. got (to a) next); print = λ b. f.print (from b) }
+named to from f = record { read = λ s at. then (f.read s at) (λ a next. Ok (to a, next)); print = λ b. f.print (from b) }
 
 -- n things in a row
 unfoldable pub read_times : {A : Type 0} → Format A → ℕ → List ℕ → ℕ → Got (List A)
-read_times f zero s at = got [] at
-read_times f (suc n) s at = then (f.read s at) (λ a p. then (read_times f n s p) (λ l q. got (a ∷ l) q))
+read_times f zero s at = Ok ([], at)
+read_times f (suc n) s at = then (f.read s at) (λ a p. then (read_times f n s p) (λ l q. Ok (a ∷ l, q)))
 
 unfoldable pub print_all : {A : Type 0} → Format A → List A → List ℕ
 print_all f [] = []
@@ -81,7 +64,7 @@ print_all f (a ∷ l) = f.print a ++ print_all f l
 abbrev pub counted : {A : Type 0} → Format A → Format (List A)
 counted f =
     record {
-      read = λ s at. then (got_number (get_u64 s at)) (λ n p. read_times f n s p);
+      read = λ s at. then (get_u64 s at) (λ n p. read_times f n s p);
       print = λ l. put_u64 (length l) ++ print_all f l;
     }
 
@@ -93,11 +76,11 @@ example_printed : example.print (300, (258, (0x68 ∷ 0x69 ∷ []) ∷ [] ∷ []
 unfolding put_u64 put_by put_le print_all
 example_printed = refl
 
-example_read : example.read (0xAC ∷ 0x02 ∷ 0x02 ∷ 0x01 ∷ 0x02 ∷ 0x02 ∷ 0x68 ∷ 0x69 ∷ 0x00 ∷ []) 0 ≡ got (300, (258, (0x68 ∷ 0x69 ∷ []) ∷ [] ∷ [])) 9
+example_read : example.read (0xAC ∷ 0x02 ∷ 0x02 ∷ 0x01 ∷ 0x02 ∷ 0x02 ∷ 0x68 ∷ 0x69 ∷ 0x00 ∷ []) 0 ≡ Ok ((300, (258, (0x68 ∷ 0x69 ∷ []) ∷ [] ∷ [])), 9)
 unfolding get_u64 read_from get_le le read_times get_name get_text skim_text utf8 scan lead part
 example_read = refl
 
 -- the second name has five bytes to come, and only one is there
-example_refused : example.read (0xAC ∷ 0x02 ∷ 0x02 ∷ 0x01 ∷ 0x02 ∷ 0x00 ∷ 0x05 ∷ 0x68 ∷ []) 0 ≡ bad (LengthOutOfRange 5 1)
+example_refused : example.read (0xAC ∷ 0x02 ∷ 0x02 ∷ 0x01 ∷ 0x02 ∷ 0x00 ∷ 0x05 ∷ 0x68 ∷ []) 0 ≡ Err (LengthOutOfRange 5 1)
 unfolding get_u64 read_from get_le le read_times get_name get_text skim_text utf8 scan lead part
 example_refused = refl

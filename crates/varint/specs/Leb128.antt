@@ -1,24 +1,23 @@
 -- "Public LEB128, least seven bits first, at most ten bytes."
-use Rattle.std.specs.Prelude.{true, false, ◌&&◌, ◌≡◌, refl, List, [], ◌∷◌, ℕ, zero, suc, ◌+◌, ◌*◌, ◌/◌, ◌%◌, ◌^◌, ltb, eqb, drop}
+use Rattle.std.specs.Prelude.{true, false, ◌&&◌, ◌≡◌, refl, List, [], ◌∷◌, ℕ, zero, suc, ◌+◌, ◌*◌, ◌/◌, ◌%◌, ◌^◌, ltb, eqb, drop, Ok, Err}
 use Rattle.varint.specs.Choice.{pick}
 use Rattle.varint.specs.declared.error.Refusal.TheVariants.{UnexpectedEof, VarintOverflow, VarintNotMinimal}
-use Rattle.varint.specs.declared.ReadU64.{ReadU64}
-use Rattle.varint.specs.declared.ReadU64.TheVariants.{Value, Refused}
+use Rattle.varint.specs.Got.{Got}
 
 -- The bytes s stand at place p, after i bytes of a varint whose value is v so far.
 -- "A tenth byte with payload above 1 is 2, tested before 3; a last byte of payload 0 after the first is 3;
 -- ten continued bytes are 2, fewer 1."
-unfoldable pub read_from : List ℕ → ℕ → ℕ → ℕ → ReadU64
-read_from [] p i v = Refused UnexpectedEof
+unfoldable pub read_from : List ℕ → ℕ → ℕ → ℕ → Got ℕ
+read_from [] p i v = Err UnexpectedEof
 read_from (b ∷ s) p i v =
     pick (eqb i 9 && ltb 1 (b % 128))
-    (Refused VarintOverflow)
+    (Err VarintOverflow)
     (pick (ltb b 128)
-    (pick (ltb 0 i && eqb b 0) (Refused VarintNotMinimal) (Value (v + b * 128 ^ i) (p + 1)))
-    (pick (eqb i 9) (Refused VarintOverflow) (read_from s (p + 1) (i + 1) (v + b % 128 * 128 ^ i))))
+    (pick (ltb 0 i && eqb b 0) (Err VarintNotMinimal) (Ok (v + b * 128 ^ i, p + 1)))
+    (pick (eqb i 9) (Err VarintOverflow) (read_from s (p + 1) (i + 1) (v + b % 128 * 128 ^ i))))
 
 -- the varint at place `at` of s
-unfoldable pub get_u64 : List ℕ → ℕ → ReadU64
+unfoldable pub get_u64 : List ℕ → ℕ → Got ℕ
 get_u64 s at = read_from (drop at s) at 0 0
 
 -- The bytes of n, by at most so many divisions by 128.
@@ -35,7 +34,7 @@ example_12857 : put_u64 12857 ≡ 0xB9 ∷ 0x64 ∷ []
 unfolding put_u64 put_by
 example_12857 = refl
 
-example_624485 : get_u64 (0xFF ∷ 0xE5 ∷ 0x8E ∷ 0x26 ∷ []) 1 ≡ Value 624485 4
+example_624485 : get_u64 (0xFF ∷ 0xE5 ∷ 0x8E ∷ 0x26 ∷ []) 1 ≡ Ok (624485, 4)
 unfolding get_u64 read_from
 example_624485 = refl
 

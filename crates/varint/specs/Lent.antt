@@ -1,7 +1,7 @@
 -- What a decoder answers, and the memory that it was lent: for messages, and for a descriptor alone.
-use Rattle.std.specs.Prelude.{◌≡◌, refl, List, [], ◌∷◌, ℕ, ltb, length}
+use Rattle.std.specs.Prelude.{◌≡◌, refl, List, [], ◌∷◌, ℕ, ltb, length, Ok, Err}
 use Rattle.varint.specs.Choice.{pick}
-use Rattle.varint.specs.Formats.{Got, got, bad}
+use Rattle.varint.specs.Got.{Got}
 use Rattle.varint.specs.Stores.{filled}
 use Rattle.varint.specs.declared.error.Buffer.TheVariants.{Text, Rows, Nodes}
 use Rattle.varint.specs.declared.error.Refusal.{Refusal}
@@ -38,8 +38,8 @@ fitted refused accepted k tx rs nd =
 
 -- what was read is put where it fits; a refusal is given before any buffer is looked at
 unfoldable pub settled : {A B : Type 0} → (Refusal → A) → (B → ℕ → A) → (B → Taken) → Got B → List ℕ → List ℕ → List ℕ → Left A
-settled refused accepted taken (got b q) tx rs nd = fitted refused (accepted b q) (taken b) tx rs nd
-settled refused accepted taken (bad e) tx rs nd = kept (refused e) tx rs nd
+settled refused accepted taken (Ok (b, q)) tx rs nd = fitted refused (accepted b q) (taken b) tx rs nd
+settled refused accepted taken (Err e) tx rs nd = kept (refused e) tx rs nd
 
 abbrev example : Taken
 example = record { text = 7 ∷ []; rows = 8 ∷ 9 ∷ []; nodes = [] }

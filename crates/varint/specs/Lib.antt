@@ -1,6 +1,7 @@
 pub mod Choice
 pub mod Fixed
 pub mod Formats
+pub mod Got
 pub mod Gathering
 pub mod Leb128
 pub mod Lent

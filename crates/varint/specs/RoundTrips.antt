@@ -1,11 +1,12 @@
 -- The two laws of a format: what is printed is read back, and only what is printed is read.
-use Rattle.std.specs.Prelude.{true, ◌≡◌, List, [], ◌∷◌, ◌++◌, ℕ, ◌+◌, ◌^◌, ◌≤◌, ◌<◌, length, get_or, drop}
-use Rattle.varint.specs.Formats.{Got, got, Format}
+use Rattle.std.specs.Prelude.{true, ◌≡◌, List, [], ◌∷◌, ◌++◌, ℕ, ◌+◌, ◌^◌, ◌≤◌, ◌<◌, length, get_or, drop, Ok}
+use Rattle.varint.specs.Got.{Got}
+use Rattle.varint.specs.Formats.{Format}
 use Rattle.varint.specs.Utf8.{utf8}
 
 -- wherever x stands, it is read as a
 abbrev pub Reads : {A : Type 0} → (List ℕ → ℕ → Got A) → List ℕ → A → Type 0
-Reads read x a = (before rest : List ℕ) → read (before ++ (x ++ rest)) (length before) ≡ got a (length before + length x)
+Reads read x a = (before rest : List ℕ) → read (before ++ (x ++ rest)) (length before) ≡ Ok (a, length before + length x)
 
 -- so for what is printed of the things that are Ok
 pub record Back {A : Type 0} (f : Format A) (Ok : A → Type 0) : Type 0 where
@@ -34,5 +35,5 @@ pub record Stands (x s : List ℕ) (at q : ℕ) : Type 0 where
 
 -- what is read from a list of bytes stands there as it is printed
 pub record Forth {A : Type 0} (f : Format A) : Type 0 where
-  pub forth : (s : List ℕ) (at : ℕ) (a : A) (q : ℕ) → Bytes s → at ≤ length s → f.read s at ≡ got a q
+  pub forth : (s : List ℕ) (at : ℕ) (a : A) (q : ℕ) → Bytes s → at ≤ length s → f.read s at ≡ Ok (a, q)
       → Stands (f.print a) s at q

@@ -7,9 +7,13 @@ use Rattle.varint.specs.Choice.{pick}
 unfoldable pub part : List ℕ → ℕ → ℕ → List ℕ
 part s from n = take n (drop from s)
 
+-- d with x from place `at` on
+unfoldable pub fill_from : {A : Type 0} → A → List A → ℕ → List A
+fill_from x d at = take at d ++ replicate (length d - at) x
+
 -- d with zeros from place `at` on
-unfoldable pub clear_from : List ℕ → ℕ → List ℕ
-clear_from d at = take at d ++ replicate (length d - at) 0
+abbrev pub clear_from : List ℕ → ℕ → List ℕ
+clear_from d at = fill_from 0 d at
 
 -- The buffer d lent for x as a whole: "the payload, then zeros", and kept where x does not fit.
 unfoldable pub filled : List ℕ → List ℕ → List ℕ
@@ -28,5 +32,5 @@ unfolding filled
 example_kept = refl
 
 example_cleared : clear_from (7 ∷ 8 ∷ 9 ∷ []) 1 ≡ 7 ∷ 0 ∷ 0 ∷ []
-unfolding clear_from
+unfolding fill_from
 example_cleared = refl

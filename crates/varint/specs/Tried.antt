@@ -1,11 +1,10 @@
 -- "Bytes to try, * in the proved table". A line of the table is a reader, the bytes that it is given, and what it must answer, in
 -- numbers. Each layer adds its lines to those of the layer below, so that there is one table in the end.
-use Rattle.std.specs.Prelude.{◌≡◌, List, [], ◌∷◌, ℕ}
+use Rattle.std.specs.Prelude.{◌≡◌, List, [], ◌∷◌, ℕ, Ok, Err}
 use Rattle.varint.specs.Leb128.{get_u64}
 use Rattle.varint.specs.Refusals.{code_of}
 use Rattle.varint.specs.declared.error.Refusal.{Refusal}
-use Rattle.varint.specs.declared.ReadU64.{ReadU64}
-use Rattle.varint.specs.declared.ReadU64.TheVariants.{Value, Refused}
+use Rattle.varint.specs.Got.{Got}
 
 pub record Line : Type 0 where
   pub reader : List ℕ → List ℕ
@@ -22,9 +21,9 @@ abbrev pub refused_in : Refusal → List ℕ
 refused_in r = (code_of r).number ∷ (code_of r).a ∷ (code_of r).b ∷ []
 
 -- or 0, the value and the place after it
-abbrev pub varint_in : ReadU64 → List ℕ
-varint_in (Value n next) = 0 ∷ n ∷ next ∷ []
-varint_in (Refused r) = refused_in r
+abbrev pub varint_in : Got ℕ → List ℕ
+varint_in (Ok (n, next)) = 0 ∷ n ∷ next ∷ []
+varint_in (Err r) = refused_in r
 
 abbrev pub varint_line : List ℕ → List ℕ → Line
 varint_line bytes answer = record { reader = λ s. varint_in (get_u64 s 0); bytes = bytes; answer = answer }

@@ -1,13 +1,14 @@
 // Why a call refuses (error.rs, with the refusals that the gateway adds), and the numbers that stand for it.
 ghost use Rattle.std.specs.Prelude.{◌≡◌};
-ghost use Rattle.varint.specs.Refusals.{code_of, mismatch_number, buffer_number, fault_number};
+ghost use Rattle.varint.specs.Refusals.{code_of};
+ghost use Rattle.varint.specs.declared.error.Refusal.TheVariants.{TooSmall};
 
-use crate::wide;
+use crate::MAX_U32;
 
 // What a byte of a known place should have been.
 #[derive(Clone, Copy)]
 pub enum Mismatch {
-    Mode,
+    Mode = 1,
     Version,
     ErrorCode,
     ControlOp,
@@ -19,7 +20,7 @@ pub enum Mismatch {
 // The lent buffers that can be too small.
 #[derive(Clone, Copy)]
 pub enum Buffer {
-    Text,
+    Text = 1,
     Rows,
     Nodes,
     Hold,
@@ -30,7 +31,7 @@ pub enum Buffer {
 // message's, a number that no such message has.
 #[derive(Clone, Copy)]
 pub enum Fault {
-    Texts,
+    Texts = 1,
     RowCount,
     Layout,
     Number,
@@ -67,80 +68,53 @@ pub struct Code {
     pub b: u64,
 }
 
-impl Mismatch {
-    pub fn number(self) -> u64
-        ensures { result ≡ mismatch_number self }
+impl Refusal {
+    // The refusal of a buffer that is lent too small.
+    pub fn too_small(which: Buffer, needed: usize) -> Refusal
+        ensures { result ≡ TooSmall which needed }
     {
-        match self {
-            Mismatch::Mode => 1,
-            Mismatch::Version => 2,
-            Mismatch::ErrorCode => 3,
-            Mismatch::ControlOp => 4,
-            Mismatch::ControlFlag => 5,
-            Mismatch::AlreadyComplete => 6,
-            Mismatch::FullScan => 7,
+        Refusal::TooSmall {
+            which,
+            needed: needed as u64,
         }
     }
 }
 
-impl Buffer {
-    pub fn number(self) -> u64
-        ensures { result ≡ buffer_number self }
+impl Code {
+    fn new(number: u64, a: u64, b: u64) -> Code
+        ensures { result ≡ record { number = number; a = a; b = b } }
     {
-        match self {
-            Buffer::Text => 1,
-            Buffer::Rows => 2,
-            Buffer::Nodes => 3,
-            Buffer::Hold => 4,
-            Buffer::Out => 5,
-        }
+        Code { number, a, b }
     }
 }
 
-impl Fault {
-    pub fn number(self) -> u64
-        ensures { result ≡ fault_number self }
-    {
-        match self {
-            Fault::Texts => 1,
-            Fault::RowCount => 2,
-            Fault::Layout => 3,
-            Fault::Number => 4,
+impl From<Refusal> for Code {
+    ghost from_gives = { λ r c. c ≡ code_of r };
+
+    fn from(r: Refusal) -> Code {
+        match r {
+            Refusal::UnexpectedEof => Code::new(1, 0, 0),
+            Refusal::VarintOverflow => Code::new(2, 0, 0),
+            Refusal::VarintNotMinimal => Code::new(3, 0, 0),
+            Refusal::BadString => Code::new(4, 0, 0),
+            Refusal::LengthOutOfRange {
+                declared,
+                available,
+            } => Code::new(5, declared, available),
+            Refusal::UnknownRefForm(tag) => Code::new(6, tag, 0),
+            Refusal::UnknownDiscriminant(n) => Code::new(7, n, 0),
+            Refusal::BadFactId(n) => Code::new(8, n, 0),
+            Refusal::TypeMismatch(m) => Code::new(9, m as u64, 0),
+            Refusal::TrailingBytes(n) => Code::new(10, n, 0),
+            Refusal::UnknownPredicate => Code::new(11, MAX_U32, 0),
+            Refusal::BlockTooLarge { declared, max } => Code::new(12, declared, max),
+            Refusal::BadDigestFlag(n) => Code::new(13, u64::from(n), 0),
+            Refusal::BadListingPredicate(n) => Code::new(14, n, 0),
+            Refusal::TooDeep(max) => Code::new(15, max, 0),
+            Refusal::TooSmall { which, needed } => Code::new(16, which as u64, needed),
+            Refusal::BadReceiver => Code::new(17, 0, 0),
+            Refusal::BadKindTable(n) => Code::new(18, n, 0),
+            Refusal::BadMessage(fault) => Code::new(19, fault as u64, 0),
         }
-    }
-}
-
-fn coded(number: u64, a: u64, b: u64) -> Code
-    ensures { result ≡ record { number = number; a = a; b = b } }
-{
-    Code { number, a, b }
-}
-
-pub fn code_of(r: Refusal) -> Code
-    ensures { result ≡ code_of r }
-{
-    match r {
-        Refusal::UnexpectedEof => coded(1, 0, 0),
-        Refusal::VarintOverflow => coded(2, 0, 0),
-        Refusal::VarintNotMinimal => coded(3, 0, 0),
-        Refusal::BadString => coded(4, 0, 0),
-        Refusal::LengthOutOfRange {
-            declared,
-            available,
-        } => coded(5, declared, available),
-        Refusal::UnknownRefForm(tag) => coded(6, tag, 0),
-        Refusal::UnknownDiscriminant(n) => coded(7, n, 0),
-        Refusal::BadFactId(n) => coded(8, n, 0),
-        Refusal::TypeMismatch(m) => coded(9, m.number(), 0),
-        Refusal::TrailingBytes(n) => coded(10, n, 0),
-        Refusal::UnknownPredicate => coded(11, 4294967295, 0),
-        Refusal::BlockTooLarge { declared, max } => coded(12, declared, max),
-        Refusal::BadDigestFlag(n) => coded(13, wide(n), 0),
-        Refusal::BadListingPredicate(n) => coded(14, n, 0),
-        Refusal::TooDeep(max) => coded(15, max, 0),
-        Refusal::TooSmall { which, needed } => coded(16, which.number(), needed),
-        Refusal::BadReceiver => coded(17, 0, 0),
-        Refusal::BadKindTable(n) => coded(18, n, 0),
-        Refusal::BadMessage(fault) => coded(19, fault.number(), 0),
     }
 }

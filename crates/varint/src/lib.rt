@@ -19,7 +19,7 @@ ghost use Rattle.varint.specs.Stores.{filled};
 ghost use Rattle.varint.specs.Outs.{wrote};
 
 use error::{Buffer, Refusal};
-use store::{clear_bytes, store_byte};
+use store::{fill_from, store};
 
 // The most bytes that a varint has.
 pub const MAX_LEN: usize = 10;
@@ -27,118 +27,86 @@ pub const MAX_LEN: usize = 10;
 // The greatest number of 32 bits.
 pub const MAX_U32: u64 = 0xFFFF_FFFF;
 
-#[derive(Clone, Copy)]
-pub enum ReadU64 {
-    Value { value: u64, next: usize },
-    Refused(Refusal),
-}
+// What is read at a place, with the place after it.
+pub type Got<T> = Result<(T, usize), Refusal>;
 
-// What was read of a `ReadU64`: the number, and the place after it.
-#[derive(Clone, Copy)]
-pub struct Number(pub u64, pub usize);
+// How many bytes of a lent buffer were written.
+pub type Written = Result<usize, Refusal>;
 
-// What a writer of a whole buffer answers.
-#[derive(Clone, Copy)]
-pub enum Written {
-    Wrote { len: usize },
-    Refused(Refusal),
-}
-
-// A byte as a number, under a name that proofs can cite.
-pub(crate) fn wide(b: u8) -> u64
-    ensures { result ≡ b }
-{
-    b as u64
-}
-
-// The varint at place `at` of `s`. Up to three bytes, the most usual, are read here and in `get_short`; the rest is read by a function that is
-// called at two places, which keeps it from being inlined, so that these two are small enough to be inlined everywhere.
-pub fn get_u64(s: &[u8], at: usize) -> ReadU64
+// The varint at place `at` of `s`. Up to three bytes, the most usual, are read here and in `get_short`, which are inlined everywhere, and more by `get_long`.
+// The answer of `get_long` is taken apart and made again: handed on whole it keeps each answer in memory, and a fetch takes nearly twice the time.
+#[inline(always)]
+pub fn get_u64(s: &[u8], at: usize) -> Got<u64>
     ensures { result ≡ get_u64 s.now at }
 {
     if at < s.len() {
-        let b = wide(s[at]);
+        let b = u64::from(s[at]);
         if b < 128 {
-            return ReadU64::Value {
-                value: b,
-                next: at + 1,
-            };
+            return Ok((b, at + 1));
         }
         return get_short(s, at, b);
     }
-    get_long(s, at)
+    let (value, next) = get_long(s, at)?;
+    Ok((value, next))
 }
 
 // The varint at place `at` of `s`, whose first byte is `b` and not its last.
-fn get_short(s: &[u8], at: usize, b: u64) -> ReadU64
+#[inline(always)]
+fn get_short(s: &[u8], at: usize, b: u64) -> Got<u64>
     requires { (at < length s.now) × (b ≡ get_or s.now at 0) × (128 ≤ b) × (b < 256) }
     ensures { result ≡ get_u64 s.now at }
 {
     if 3 <= s.len() - at {
-        let c = wide(s[at + 1]);
+        let c = u64::from(s[at + 1]);
         if c < 128 {
             if 0 < c {
-                return ReadU64::Value {
-                    value: b - 128 + c * 128,
-                    next: at + 2,
-                };
+                return Ok((b - 128 + c * 128, at + 2));
             }
         } else {
-            let d = wide(s[at + 2]);
+            let d = u64::from(s[at + 2]);
             if d < 128 {
                 if 0 < d {
-                    return ReadU64::Value {
-                        value: b - 128 + (c - 128) * 128 + d * 16384,
-                        next: at + 3,
-                    };
+                    return Ok((b - 128 + (c - 128) * 128 + d * 16384, at + 3));
                 }
             }
         }
     }
-    get_long(s, at)
+    let (value, next) = get_long(s, at)?;
+    Ok((value, next))
 }
 
 // The varint at place `at` of `s`, of any length.
-fn get_long(s: &[u8], at: usize) -> ReadU64
+fn get_long(s: &[u8], at: usize) -> Got<u64>
     ensures { result ≡ get_u64 s.now at }
 {
     let mut value: u64 = 0;
     let mut unit: u64 = 1;
-    let mut i: u64 = 0;
-    let mut p = at;
-    while p < s.len() {
-        let b = wide(s[p]);
+    for p in at..s.len() {
+        let b = u64::from(s[p]);
+        let i = p - at;
         if i == 9 {
             // The tenth byte has room for one bit.
             if b == 0 {
-                return ReadU64::Refused(Refusal::VarintNotMinimal);
+                return Err(Refusal::VarintNotMinimal);
             }
             if b == 1 {
-                return ReadU64::Value {
-                    value: value + unit,
-                    next: p + 1,
-                };
+                return Ok((value + unit, p + 1));
             }
-            return ReadU64::Refused(Refusal::VarintOverflow);
+            return Err(Refusal::VarintOverflow);
         }
         if b < 128 {
             if b == 0 {
                 let padded = 0 < i;
                 if padded {
-                    return ReadU64::Refused(Refusal::VarintNotMinimal);
+                    return Err(Refusal::VarintNotMinimal);
                 }
             }
-            return ReadU64::Value {
-                value: value + b * unit,
-                next: p + 1,
-            };
+            return Ok((value + b * unit, p + 1));
         }
-        value = value + (b - 128) * unit;
-        unit = unit * 128;
-        i += 1;
-        p += 1;
+        value += (b - 128) * unit;
+        unit *= 128;
     }
-    ReadU64::Refused(Refusal::UnexpectedEof)
+    Err(Refusal::UnexpectedEof)
 }
 
 // How many bytes the varint of `value` has. It is compared with each power of 128, least first: most numbers are small, and
@@ -197,6 +165,7 @@ fn put_free(out: &mut [u8], at: usize, value: u64) -> usize
 {
     let mut v = value;
     let mut p = at;
+    // No `for`: how many bytes there are is told by what is left of the number, and not by a range.
     while 128 <= v {
         out[p] = (v % 128 + 128) as u8;
         v = v / 128;
@@ -206,19 +175,21 @@ fn put_free(out: &mut [u8], at: usize, value: u64) -> usize
     p + 1 - at
 }
 
-// Stores the varint of `value` from a place inside on, as far as `out` goes.
+// Stores the varint of `value` from a place inside on, as far as `out` goes. `put_free` into ten bytes of its own and a copy of them was tried: where a
+// message just fits, that takes two fifths more time.
 fn put_clipped(out: &mut [u8], at: usize, value: u64) -> usize
     requires { at < length out.old }
     ensures { (result ≡ length (put_u64 value)) × (out.new ≡ sets out.old at (put_u64 value)) }
 {
     let mut v = value;
     let mut p = at;
+    // No `for`, as above.
     while 128 <= v {
-        store_byte(out, p, (v % 128 + 128) as u8);
+        store(out, p, (v % 128 + 128) as u8);
         v = v / 128;
         p += 1;
     }
-    store_byte(out, p, v as u8);
+    store(out, p, v as u8);
     p + 1 - at
 }
 
@@ -228,12 +199,9 @@ pub fn encode_u64(out: &mut [u8], value: u64) -> Written
 {
     let len = len_u64(value);
     if out.len() < len {
-        return Written::Refused(Refusal::TooSmall {
-            which: Buffer::Out,
-            needed: len as u64,
-        });
+        return Err(Refusal::too_small(Buffer::Out, len));
     }
     put_u64(out, 0, value);
-    clear_bytes(out, len);
-    Written::Wrote { len }
+    fill_from(out, len, 0);
+    Ok(len)
 }

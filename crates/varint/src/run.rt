@@ -1,106 +1,88 @@
 // Runs of varints, one behind the other.
-ghost use Rattle.std.specs.Prelude.{◌≡◌, ◌+◌, ◌≤◌, ◌<◌, length};
+ghost use Rattle.std.specs.Prelude.{◌≡◌, ◌+◌, ◌≤◌, length, IfSome};
 ghost use Rattle.std.proofs.lemmas.List.Edits.{sets};
 ghost use Rattle.varint.specs.Runs.{end_of, values_of};
 ghost use Rattle.varint.specs.Inner.RunSteps.{Passed};
 
 use crate::error::Refusal;
-use crate::store::store_number;
-use crate::{ReadU64, get_u64, wide};
+use crate::get_u64;
+use crate::store::store;
 
-// The place after a run, or why it is refused.
-#[derive(Clone, Copy)]
-pub enum Run {
-    Next(usize),
-    Refused(Refusal),
-}
-
-// How many bytes the varint at place `at` has, where it has at most nine; 0 where it is longer or is none.
-fn skim_one(s: &[u8], at: usize) -> usize
+// How many bytes the varint at place `at` has, where it has at most nine.
+fn skim_one(s: &[u8], at: usize) -> Option<usize>
     requires { at + 9 ≤ length s.now }
-    ensures { 0 < result → Passed s.now at result }
+    ensures { IfSome result (λ n. Passed s.now at n) }
 {
-    let mut i: usize = 0;
-    while i < 9 {
+    for i in 0..9 {
         let b = s[at + i];
         if b < 128 {
-            if b == 0 {
-                if 0 < i {
-                    return 0;
-                }
-            }
-            return i + 1;
+            let padded = b == 0 && 0 < i;
+            return if padded { None } else { Some(i + 1) };
         }
-        i += 1;
     }
-    0
+    None
 }
 
 // Where the `count` varints from place `at` on end. Their values are not made: a varint that has room for nine bytes is
 // passed byte by byte, with no test for the end of `s`, and only an unusual one is read.
-pub fn skim_run(s: &[u8], at: usize, count: u64) -> Run
+pub fn skim_run(s: &[u8], at: usize, count: u64) -> Result<usize, Refusal>
     ensures { result ≡ end_of count s.now at }
 {
-    let mut left = count;
     let mut p = at;
-    while 0 < left {
-        let mut n: usize = 0;
-        if p < s.len() {
-            if 9 <= s.len() - p {
-                n = skim_one(s, p);
-            }
-        }
-        if n == 0 {
-            match get_u64(s, p) {
-                ReadU64::Refused(e) => return Run::Refused(e),
-                ReadU64::Value { value: _, next } => p = next,
-            }
-        } else {
-            p += n;
-        }
-        left -= 1;
+    for _ in 0..count {
+        p = skim_next(s, p)?;
     }
-    Run::Next(p)
+    Ok(p)
+}
+
+// Where the varint at place `at` ends.
+fn skim_next(s: &[u8], at: usize) -> Result<usize, Refusal>
+    ensures { result ≡ end_of 1 s.now at }
+{
+    if at < s.len() && 9 <= s.len() - at {
+        if let Some(n) = skim_one(s, at) {
+            return Ok(at + n);
+        }
+    }
+    let (_, next) = get_u64(s, at)?;
+    Ok(next)
 }
 
 // Stores the `count` varints from place `at` on in `out`, as far as it goes, and tells where they end; those before one that
-// is refused are stored. Each is read here, and not by `get_u64`, so that its value and place stay in registers.
-pub fn fill_run(s: &[u8], at: usize, count: u64, out: &mut [u64]) -> Run
+// is refused are stored. Each is read here, and not by `get_u64`, so that its value and place stay in registers: the plain loop was tried, and takes twice
+// the time. Nor is the inner loop a `for`, since it ends at a byte and not at a count.
+pub fn fill_run(s: &[u8], at: usize, count: u64, out: &mut [u64]) -> Result<usize, Refusal>
     ensures { (result ≡ end_of count s.now at) × (out.new ≡ sets out.old 0 (values_of count s.now at)) }
 {
-    let mut left = count;
     let mut p = at;
-    let mut r: usize = 0;
-    while 0 < left {
+    for r in 0..count {
         let mut value: u64 = 0;
         let mut unit: u64 = 1;
         let mut i: u64 = 0;
         loop {
             if s.len() <= p {
-                return Run::Refused(Refusal::UnexpectedEof);
+                return Err(Refusal::UnexpectedEof);
             }
-            let b = wide(s[p]);
+            let b = u64::from(s[p]);
             p += 1;
             if b < 128 {
                 if (0 < i) & (b == 0) {
-                    return Run::Refused(Refusal::VarintNotMinimal);
+                    return Err(Refusal::VarintNotMinimal);
                 }
                 if (i == 9) & (1 < b) {
-                    return Run::Refused(Refusal::VarintOverflow);
+                    return Err(Refusal::VarintOverflow);
                 }
                 value = value + b * unit;
                 break;
             }
             if i == 9 {
-                return Run::Refused(Refusal::VarintOverflow);
+                return Err(Refusal::VarintOverflow);
             }
-            value = value + (b - 128) * unit;
-            unit = unit * 128;
+            value += (b - 128) * unit;
+            unit *= 128;
             i += 1;
         }
-        store_number(out, r, value);
-        r += 1;
-        left -= 1;
+        store(out, r as usize, value);
     }
-    Run::Next(p)
+    Ok(p)
 }

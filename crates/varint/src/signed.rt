@@ -6,14 +6,7 @@ ghost use Rattle.varint.specs.Outs.{wrote};
 ghost use Rattle.varint.specs.Stores.{filled};
 ghost use Rattle.varint.specs.Zigzag.{zig, unzig, get_i64};
 
-use crate::error::Refusal;
-use crate::{ReadU64, Written};
-
-#[derive(Clone, Copy)]
-pub enum ReadI64 {
-    Value { value: i64, next: usize },
-    Refused(Refusal),
-}
+use crate::{Got, Written};
 
 // v to 2v, and to −2v − 1 where v is negative. The flipped bits of a negative v are −v − 1.
 pub fn zigzag(value: i64) -> u64
@@ -36,16 +29,11 @@ pub fn unzigzag(bits: u64) -> i64
 }
 
 // The zigzag varint at place `at` of `s`.
-pub fn get_i64(s: &[u8], at: usize) -> ReadI64
+pub fn get_i64(s: &[u8], at: usize) -> Got<i64>
     ensures { result ≡ get_i64 s.now at }
 {
-    match crate::get_u64(s, at) {
-        ReadU64::Value { value, next } => ReadI64::Value {
-            value: unzigzag(value),
-            next,
-        },
-        ReadU64::Refused(r) => ReadI64::Refused(r),
-    }
+    let (bits, next) = crate::get_u64(s, at)?;
+    Ok((unzigzag(bits), next))
 }
 
 // Stores the zigzag varint of `value` from place `at` on, as far as `out` goes, and returns how many bytes it has.

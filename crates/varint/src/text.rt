@@ -1,70 +1,59 @@
-// Texts and names: a length and that many bytes of UTF-8 (`get_str` of protocol.rs, `take_name` of desc.rs).
+// Texts and names: a length and that many bytes of UTF-8 (`get_str` of protocol.rs, `take_name` of desc.rs). The lengths are read inline, as numbers are.
 ghost use Rattle.std.specs.Prelude.{◌≡◌, ◌≤◌, length};
 ghost use Rattle.varint.specs.Texts.{skim_on, skim_text, get_text, get_name};
-ghost use Rattle.varint.specs.declared.ReadU64.TheVariants.{Value};
 
-use crate::ReadU64;
+use crate::Got;
 use crate::error::Refusal;
 use crate::utf8::is_utf8;
 
-// A text lies in the bytes that were read: `len` of them from `start` on. What follows it is at `next`.
+// A text lies in the bytes that were read: `len` of them from `start` on.
 #[derive(Clone, Copy)]
-pub enum ReadText {
-    Text {
-        start: usize,
-        len: usize,
-        next: usize,
-    },
-    Refused(Refusal),
+pub struct Span {
+    pub start: usize,
+    pub len: usize,
 }
 
 // The text whose length `n` was read and whose bytes start at `start`.
-fn span_of(s: &[u8], n: u64, start: usize) -> ReadText
+#[inline(always)]
+fn span_of(s: &[u8], n: u64, start: usize) -> Got<Span>
     requires { start ≤ length s.now }
-    ensures { result ≡ skim_on s.now (Value n start) }
+    ensures { result ≡ skim_on s.now (Ok (n, start)) }
 {
     let available = (s.len() - start) as u64;
     if available < n {
-        return ReadText::Refused(Refusal::LengthOutOfRange {
+        return Err(Refusal::LengthOutOfRange {
             declared: n,
             available,
         });
     }
     let len = n as usize;
-    ReadText::Text {
-        start,
-        len,
-        next: start + len,
-    }
+    Ok((Span { start, len }, start + len))
 }
 
 // Where the text at place `at` of `s` lies. Its bytes are not looked at: this is for what was read before.
-pub fn skim_str(s: &[u8], at: usize) -> ReadText
+#[inline(always)]
+#[tactic(auto, unfolding(crate::specs::Texts::skim_text))]
+pub fn skim_str(s: &[u8], at: usize) -> Got<Span>
     ensures { result ≡ skim_text s.now at }
 {
-    match crate::get_u64(s, at) {
-        ReadU64::Value { value, next } => span_of(s, value, next),
-        ReadU64::Refused(r) => ReadText::Refused(r),
-    }
+    let (n, start) = crate::get_u64(s, at)?;
+    span_of(s, n, start)
 }
 
 // The text at place `at` of `s`.
-pub fn get_str(s: &[u8], at: usize) -> ReadText
+pub fn get_str(s: &[u8], at: usize) -> Got<Span>
     ensures { result ≡ get_text s.now at }
 {
-    match skim_str(s, at) {
-        ReadText::Text { start, len, next } => {
-            if is_utf8(s, start, len) {
-                return ReadText::Text { start, len, next };
-            }
-            ReadText::Refused(Refusal::BadString)
-        }
-        ReadText::Refused(r) => ReadText::Refused(r),
+    let (text, next) = skim_str(s, at)?;
+    if is_utf8(s, text.start, text.len) {
+        return Ok((text, next));
     }
+    Err(Refusal::BadString)
 }
 
 // The name at place `at` of `s`: a text, today with no rule of its own.
-pub fn take_name(s: &[u8], at: usize) -> ReadText
+#[tactic(auto, unfolding(crate::specs::Texts::get_name))]
+pub fn take_name(s: &[u8], at: usize) -> Got<Span>
     ensures { result ≡ get_name s.now at }
 {
     get_str(s, at)

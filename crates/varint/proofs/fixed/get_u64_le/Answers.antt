@@ -1,23 +1,23 @@
-use mathlib.Core.Path.{sym, ◌∙◌}
-use native.Mathlib.Omega.{arith}
-use Rattle.varint.proofs.FixedLaws.{get_le_halves, get_le_first_short, get_le_second_short, get_le_short, get_le_refused, get_le_bound}
+use mathlib.Core.Path.{sym, ◌∙◌, ap}
+use Prim.Native.Nat.{ℕ, ◌^◌, ◌<◌}
+use lib.ListN.{length}
+use Rattle.std.proofs.Common.{◌≡◌, rules}
+use Rattle.std.specs.Prelude.{Ok}
+use Rattle.varint.specs.RoundTrips.{Bytes}
+use Rattle.std.proofs.lemmas.Result.{err_from_is_err_and}
+use Rattle.varint.proofs.Digits.{le_8}
+use Rattle.varint.proofs.FixedLaws.{get_le_got, get_le_bad}
 use Rattle.varint.proofs.fixed.get_u64_le.Goals as goal
 
-pub overflow_mul-result : goal.overflow_mul-result
-overflow_mul-result c = omega (arith, get_le_bound 4 _ _ _ _ (λ i. (c.type_inv.s i).fits) (sym c.get_u32_le-in-Value.ensures ∙ c.in-Value-get_u32_le.is))
+pub returns-in_err-bytes : goal.returns-in_err-bytes
+returns-in_err-bytes c =
+    let p = err_from_is_err_and c.from_residual.result c.from_residual.ensures.1 in
+    rw (p.1, p.2) (sym (get_le_bad 8 c.args.s.now c.args.at (sym c.take.ensures ∙ c.in_err-bytes.was)))
 
-pub overflow_add-result : goal.overflow_add-result
-overflow_add-result c = omega (arith, get_le_bound 4 _ _ _ _ (λ i. (c.type_inv.s i).fits) (sym c.get_u32_le.ensures ∙ c.in-Value.is), get_le_bound 4 _ _ _ _ (λ i. (c.type_inv.s i).fits) (sym c.get_u32_le-in-Value.ensures ∙ c.in-Value-get_u32_le.is))
-
-pub returns-in-Value-get_u32_le : goal.returns-in-Value-get_u32_le
-returns-in-Value-get_u32_le c = sym (get_le_halves 4 4 _ _ _ _ _ _ (sym c.get_u32_le.ensures ∙ c.in-Value.is) (sym c.get_u32_le-in-Value.ensures ∙ c.in-Value-get_u32_le.is))
-
-pub returns-in-Refused-get_u32_le : goal.returns-in-Refused-get_u32_le
-returns-in-Refused-get_u32_le c =
-    let n = get_le_refused 4 _ _ _ (sym c.get_u32_le-in-Value.ensures ∙ c.in-Refused-get_u32_le.is) in
-    sym c.in-Refused-get_u32_le.is ∙ c.get_u32_le-in-Value.ensures ∙ get_le_short 4 _ _ n ∙ sym (get_le_second_short 4 4 _ _ _ _ _ (sym c.get_u32_le.ensures ∙ c.in-Value.is) (sym c.get_u32_le-in-Value.ensures ∙ c.in-Refused-get_u32_le.is))
-
-pub returns-in-Refused : goal.returns-in-Refused
-returns-in-Refused c =
-    let n = get_le_refused 4 _ _ _ (sym c.get_u32_le.ensures ∙ c.in-Refused.is) in
-    sym c.in-Refused.is ∙ c.get_u32_le.ensures ∙ get_le_short 4 _ _ n ∙ sym (get_le_first_short 4 4 _ _ _ (sym c.get_u32_le.ensures ∙ c.in-Refused.is))
+pub returns : goal.returns
+returns c =
+    let bytes : Bytes c.in_ok-bytes.bytes = search rules in
+    let size : length c.in_ok-bytes.bytes ≡ 8 = search rules in
+    let fits : c.from_le_bytes.result < 256 ^ 8 = search rules in
+    let e = le_8 c.in_ok-bytes.bytes _ bytes size c.from_le_bytes.ensures fits in
+    sym (get_le_got 8 c.args.s.now c.args.at (sym c.take.ensures ∙ c.in_ok-bytes.was) ∙ ap (λ (n : ℕ). Ok (n, c.in_ok-bytes.next)) e)

@@ -10,8 +10,5 @@ invariant-loop-p l = Going l.s l.initial.p l.value l.unit l.i l.p
 abbrev pub decreases-loop-p : goal.decreases-loop-p
 decreases-loop-p l = length l.s - l.p
 
-abbrev pub invariant-loop-left : goal.invariant-loop-left
-invariant-loop-left l = Filling l.s l.at l.count l.initial.out l.out l.left l.p l.r
-
-abbrev pub decreases-loop-left : goal.decreases-loop-left
-decreases-loop-left l = l.left
+abbrev pub invariant-loop-r : goal.invariant-loop-r
+invariant-loop-r l = Filling l.s l.at l.count l.initial.out l.out (l.count - l.r) l.p l.r

@@ -1,16 +1,19 @@
 use Prim.Native.Nat.{ℕ, ◌+◌, ◌*◌, ◌%◌, ◌^◌, ◌≤◌, ◌<◌}
 use native.Mathlib.Nat.{add-zero}
 use native.Mathlib.Omega.{arith}
-use mathlib.Core.Path.{◌≡◌, ◌∙◌, ap}
+use mathlib.Core.Bool.{false}
+use lib.Dec.{ltb}
+use borrow.Author.Tests.{ltb-false}
+use mathlib.Core.Path.{◌≡◌, sym, ◌∙◌, ap}
 use mathlib.Core.List.{List, ◌∷◌}
 use lib.ListN.{length, get_or, drop}
-use Rattle.varint.specs.declared.ReadU64.TheVariants.{Value}
 use Rattle.varint.specs.Leb128.{get_u64, read_from}
 use Rattle.varint.specs.Inner.RunSteps.{Passed}
 use Rattle.varint.proofs.ReadLaws.{last_first, last_more, more, read_at}
 use Rattle.varint.proofs.run.skim_one.Invariants.{Passing}
 use Rattle.varint.proofs.run.skim_one.Goals as goal
-use Rattle.varint.proofs.run.skim_one.Goals.{then-b-eq0+else-i-gt0, else-b-eq0}
+use Rattle.varint.proofs.run.skim_one.Goals.{then-b-eq0, else-b-eq0}
+use Rattle.std.specs.Prelude.{Ok}
 
 passing_start : (s : List ℕ) (at : ℕ) → Passing s at 0
 unfolding get_u64
@@ -25,26 +28,24 @@ module _ {s : List ℕ} {at i : ℕ} (g : Passing s at i) (h : at + i < length s
       let e : at + i + 1 ≡ at + (i + 1) = omega arith in
       record { nine = omega arith; value = g.value + get_or s (at + i) 0 % 128 * 128 ^ i; same = opened ∙ more _ _ _ _ _ big n ∙ rw e }
 
-  ends : {v : ℕ} → read_from (get_or s (at + i) 0 ∷ drop (at + i + 1) s) (at + i) i g.value ≡ Value v (at + i + 1) → Passed s at (i + 1)
-  ends {v} a = let e : at + i + 1 ≡ at + (i + 1) = omega arith in record { value = v; is = opened ∙ a ∙ ap (Value v) e }
+  ends : {v : ℕ} → read_from (get_or s (at + i) 0 ∷ drop (at + i + 1) s) (at + i) i g.value ≡ Ok (v, at + i + 1) → Passed s at (i + 1)
+  ends {v} a = let e : at + i + 1 ≡ at + (i + 1) = omega arith in record { value = v; is = opened ∙ a ∙ ap ((λ z0. Ok (v, z0))) e }
+
+-- a byte that is not behind another is the first
+first_byte : {i : ℕ} → ltb 0 i ≡ false → i ≡ 0
+first_byte e = omega (arith, ltb-false _ _ e)
 
 pub loop-i-init : goal.loop-i-init
 loop-i-init c = passing_start _ _
 
-pub returns-then-i-gt0 : goal.returns-then-i-gt0
-returns-then-i-gt0 c = λ h. absurd (omega arith)
+pub loop-i-preserved : goal.loop-i-preserved
+loop-i-preserved c = passing_more c.loop-i.invariant (omega arith) c.if-b-lt128.false c.loop-i-test.true
 
-pub returns-then-b-lt128 : goal.returns-then-b-lt128
-returns-then-b-lt128 c = λ _.
+pub returns-else-padded : goal.returns-else-padded
+returns-else-padded c =
     let l = c.loop-i in
     let lt = c.if-b-lt128.true in
     elim c.if-b-eq0.branch [
-      | then-b-eq0+else-i-gt0 w ↦ ends l.invariant (omega arith) (last_first _ _ _ _ _ (omega (arith, w.if-i-gt0.false)) lt)
+      | then-b-eq0 w ↦ ends l.invariant (omega arith) (last_first _ _ _ _ _ (first_byte (sym w.padded-is ∙ c.if-padded.false)) lt)
       | else-b-eq0 w ↦ ends l.invariant (omega arith) (last_more _ _ _ _ _ lt (omega (arith, w.if-b-eq0.false)) (omega arith))
     ]
-
-pub loop-i-preserved : goal.loop-i-preserved
-loop-i-preserved c = let b = c.before.before in passing_more b.loop-i.invariant (omega arith) c.if-b-lt128.false b.loop-i-test.true
-
-pub returns : goal.returns
-returns c = λ h. absurd (omega arith)

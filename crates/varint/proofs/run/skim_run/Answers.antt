@@ -1,54 +1,23 @@
-use Prim.Native.Nat.{ℕ, ◌-◌, ◌<◌}
+use mathlib.Core.Path.{◌≡◌, sym, ◌∙◌, ap}
+use Prim.Native.Nat.{◌+◌, ◌-◌}
 use native.Mathlib.Omega.{arith}
-use mathlib.Core.Path.{◌≡◌, refl, sym, ◌∙◌}
-use mathlib.Core.List.{List}
-use Rattle.varint.specs.Leb128.{get_u64}
+use Rattle.std.proofs.lemmas.Result.{err_from_is_err_and}
 use Rattle.varint.specs.Runs.{end_of}
-use Rattle.varint.specs.Inner.RunSteps.{Passed}
-use Rattle.varint.specs.declared.ReadU64.TheVariants.{Value}
-use Rattle.varint.proofs.FormatParts.{num_inside}
-use Rattle.varint.proofs.RunLaws.{end_none, end_more, end_bad}
+use Rattle.varint.proofs.RunLaws.{end_none, end_on, end_off}
 use Rattle.varint.proofs.run.skim_run.Goals as goal
-use Rattle.varint.proofs.run.skim_run.Goals.{then-p-s+then-s-p-ge9, then-p-s+else-s-p-ge9, else-p-s, then-n-eq0+in-Value, else-n-eq0}
 
--- n bytes, where they are not none, are what was passed
-passed_as : {s : List ℕ} {p n r : ℕ} → n ≡ r → (0 < r → Passed s p r) → (n ≡ 0 → ⊥) → Passed s p n
-passed_as e h k = rw e (h (omega arith))
+pub loop-init : goal.loop-init
+loop-init c = let e : c.args.count ≡ c.args.count - 0 = omega arith in ap (λ n. end_of n c.args.s.now c.args.at) e
 
-ended_at : (s : List ℕ) (left p : ℕ) {v q p' : ℕ} → 0 < left → get_u64 s p ≡ Value v q → p' ≡ q → end_of left s p ≡ end_of (left - 1) s p'
-ended_at s left p h e i = rw i (end_more left s p h e)
+pub returns-in_err-p : goal.returns-in_err-p
+returns-in_err-p c =
+    let p = err_from_is_err_and c.from_residual.result c.from_residual.ensures.1 in
+    rw (p.1, p.2) (sym (c.loop.invariant ∙ end_off _ _ _ (omega (arith, c.loop-test.true)) (sym c.skim_next.ensures ∙ c.in_err-p.was)))
 
-pub loop-left-init : goal.loop-left-init
-loop-left-init c = refl
-
-pub returns-in-Refused : goal.returns-in-Refused
-returns-in-Refused c =
-    sym (c.loop-left.invariant ∙ end_bad _ _ _ c.loop-left-test.true (sym c.get_u64.ensures ∙ c.in-Refused.is))
-
-pub overflow_add-p : goal.overflow_add-p
-overflow_add-p c =
-    let p : Passed c.args.s.now c.loop-left.p c.if-p-s.n =
-    elim c.if-p-s.branch [
-      | then-p-s+then-s-p-ge9 w ↦ passed_as w.n-is w.skim_one-n.ensures c.if-n-eq0.false
-      | then-p-s+else-s-p-ge9 w ↦ absurd (c.if-n-eq0.false w.n-is)
-      | else-p-s w ↦ absurd (c.if-n-eq0.false w.n-is)
-    ] in
-    let i = num_inside _ _ _ _ p.is in
-    omega (arith, i.1)
-
-pub loop-left-preserved : goal.loop-left-preserved
-loop-left-preserved c =
-    elim c.if-n-eq0.branch [
-      | then-n-eq0+in-Value w ↦ c.loop-left.invariant ∙ ended_at _ _ _ c.loop-left-test.true (sym w.get_u64.ensures ∙ w.in-Value.is) w.p-is
-      | else-n-eq0 v ↦
-          let p : Passed c.args.s.now c.loop-left.p c.if-p-s.n =
-          elim c.if-p-s.branch [
-            | then-p-s+then-s-p-ge9 w ↦ passed_as w.n-is w.skim_one-n.ensures v.if-n-eq0.false
-            | then-p-s+else-s-p-ge9 w ↦ absurd (v.if-n-eq0.false w.n-is)
-            | else-p-s w ↦ absurd (v.if-n-eq0.false w.n-is)
-          ] in
-          c.loop-left.invariant ∙ ended_at _ _ _ c.loop-left-test.true p.is v.p-is
-    ]
+pub loop-preserved : goal.loop-preserved
+loop-preserved c =
+    let e : c.args.count - c.loop.counter - 1 ≡ c.args.count - (c.loop.counter + 1) = omega arith in
+    c.loop.invariant ∙ end_on _ _ _ (omega (arith, c.loop-test.true)) (sym c.skim_next.ensures ∙ c.in_ok-p.was) ∙ ap (λ n. end_of n c.args.s.now c.in_ok-p.p) e
 
 pub returns : goal.returns
-returns c = sym (c.loop-left.invariant ∙ end_none _ _ _ c.loop-left-test.false)
+returns c = sym (c.loop.invariant ∙ end_none _ _ _ (omega (arith, c.loop-test.false)))
