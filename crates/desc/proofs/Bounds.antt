@@ -5,17 +5,18 @@ use mathlib.Core.List.{List}
 use Prim.Native.Nat.{ℕ, ◌+◌, ◌≤◌}
 use native.Mathlib.Omega.{arith}
 use lib.ListN.{length, length-append}
-use Rattle.varint.specs.Formats.{Got, got, bad}
+use Rattle.varint.specs.Got.{Got}
 use Rattle.varint.specs.Stores.{part}
 use Rattle.varint.proofs.StoreLaws.{length_part}
-use Rattle.desc.specs.declared.Walked.TheVariants.{Read}
-use Rattle.desc.specs.Decoding.{measured}
+use Rattle.desc.specs.Decoding.{measured, walked_to}
 use Rattle.desc.specs.Layout.{texts, kid_texts}
 use Rattle.desc.specs.Reading.{desc}
 use Rattle.desc.specs.Trees.{Tree, Kids, size, kid_size}
 use Rattle.desc.proofs.GotAs.{got_as}
 use Rattle.desc.proofs.HeadLaws.{leaf_inside, branch_inside, label_inside}
+use Rattle.desc.proofs.MeasureLaws.{walked_of}
 use Rattle.desc.proofs.ReadInduction.{Steps, desc_as}
+use Rattle.std.specs.Prelude.{Ok, Err}
 
 module _ (check : Bool) (limit : ℕ) (s : List ℕ) where
   -- a descriptor, or parts of one, read from a place inside
@@ -52,23 +53,24 @@ module _ (check : Bool) (limit : ℕ) (s : List ℕ) where
 
 -- a descriptor of n bytes has at most n bytes of text and nodes together
 pub desc_bounds : (check : Bool) (limit depth : ℕ) (s : List ℕ) (at : ℕ) (tr : Tree (List ℕ)) (q : ℕ)
-    → at ≤ length s → desc check limit depth s at ≡ got tr q → (at + (length (texts tr) + size tr) ≤ q) × (q ≤ length s)
+    → at ≤ length s → desc check limit depth s at ≡ Ok (tr, q) → (at + (length (texts tr) + size tr) ≤ q) × (q ≤ length s)
 desc_bounds check limit depth s at tr q h e =
     got_as (Fits check limit s at) (desc check limit depth s at) tr q (desc_as check limit s _ _ (steps check limit s) depth at) e h
 
 -- the same of its measure
 pub measured_bounds : (check : Bool) (limit depth : ℕ) (s : List ℕ) (at q t m : ℕ)
-    → at ≤ length s → measured (desc check limit depth s at) ≡ Read q t m → (at + (t + m) ≤ q) × (q ≤ length s)
+    → at ≤ length s → measured (desc check limit depth s at) ≡ Ok (walked_to q t m) → (at + (t + m) ≤ q) × (q ≤ length s)
 unfolding measured
 measured_bounds check limit depth s at q t m h e = on (desc check limit depth s at) refl e
   where
-    on : (x : Got (Tree (List ℕ))) → desc check limit depth s at ≡ x → measured x ≡ Read q t m → (at + (t + m) ≤ q) × (q ≤ length s)
-    on (got tr o) i g =
+    on : (x : Got (Tree (List ℕ))) → desc check limit depth s at ≡ x → measured x ≡ Ok (walked_to q t m) → (at + (t + m) ≤ q) × (q ≤ length s)
+    on (Ok (tr, o)) i g =
         let f = desc_bounds check limit depth s at tr o h i in
         let f₀ = f.0 in
         let f₁ = f.1 in
-        let a : o ≡ q = cc in
-        let b : length (texts tr) ≡ t = cc in
-        let c : size tr ≡ m = cc in
+        let w = walked_of g in
+        let w₀ = w.0 in
+        let w₁ = w.1 in
+        let w₂ = w.2 in
         (omega arith, omega arith)
-    on (bad r) i g = let z : ◌≡◌ {A = ℕ} 0 1 = cc in absurd (omega arith)
+    on (Err r) i g = let z : ◌≡◌ {A = ℕ} 0 1 = cc in absurd (omega arith)

@@ -8,8 +8,6 @@ use borrow.Author.Tests.{lt-ltb, le-ltb}
 use Rattle.varint.specs.Gathering.{Held, lacks}
 use Rattle.varint.specs.Outs.{declared, send, wrote}
 use Rattle.varint.specs.Stores.{clear_from, filled}
-use Rattle.varint.specs.declared.Written.{Written}
-use Rattle.varint.specs.declared.Written.TheVariants.{Wrote, Refused as NotWritten}
 use Rattle.varint.specs.declared.error.Buffer.TheVariants.{Out}
 use Rattle.varint.specs.declared.error.Refusal.{Refusal}
 use Rattle.varint.specs.declared.error.Refusal.TheVariants.{BlockTooLarge, TooSmall}
@@ -22,9 +20,10 @@ use Rattle.desc.specs.Table.{table}
 use Rattle.desc.specs.Trees.{Tree}
 use Rattle.desc.proofs.EmitPrint.{Roomy}
 use Rattle.desc.proofs.EmitWhole.{Whole, whole_stored}
+use Rattle.std.specs.Prelude.{Result, Ok, Err, Option}
 
 module _ (max limit : ℕ) (tx nd d : List ℕ) where
-  pub encode_refused : (r : Refusal) → held_in (table limit nd 0 0) tx ≡ lacks r → record { answer = NotWritten r; out = d } ≡ encode_desc max limit tx nd d
+  pub encode_refused : (r : Refusal) → held_in (table limit nd 0 0) tx ≡ lacks r → record { answer = Err r; out = d } ≡ encode_desc max limit tx nd d
   unfolding encode_desc sent_desc
   encode_refused r h = rw h
 
@@ -33,7 +32,7 @@ module _ (max limit : ℕ) (tx nd d : List ℕ) where
     unfolding encode_desc sent_desc
     sends = ap (λ (H : Held (Tree (List ℕ))). sent_desc max H d) (sym w.is)
 
-    pub encode_big : max < a → record { answer = NotWritten (BlockTooLarge a max); out = d } ≡ encode_desc max limit tx nd d
+    pub encode_big : max < a → record { answer = Err (BlockTooLarge a max); out = d } ≡ encode_desc max limit tx nd d
     unfolding send
     encode_big h =
         let x = print w.tree in
@@ -45,19 +44,19 @@ module _ (max limit : ℕ) (tx nd d : List ℕ) where
       size_is : a ≡ length (print w.tree)
       size_is = let z : a ≡ declared (length (print w.tree)) = w.size in omega arith
 
-      fits : (A : Written) (o : List ℕ) → (A ≡ wrote d (print w.tree)) × (o ≡ filled d (print w.tree))
+      fits : (A : Result ℕ Refusal) (o : List ℕ) → (A ≡ wrote d (print w.tree)) × (o ≡ filled d (print w.tree))
           → record { answer = A; out = o } ≡ encode_desc max limit tx nd d
       unfolding send
       fits A o p =
           let b : length (print w.tree) ≤ max = rw (← size_is) small in
           rw (p.0, p.1, le-ltb max (length (print w.tree)) b) refl ∙ sends
 
-      pub encode_small : length d < a → record { answer = NotWritten (TooSmall Out a); out = d } ≡ encode_desc max limit tx nd d
-      encode_small h = fits (NotWritten (TooSmall Out a)) d (out_refused d (print w.tree) a size_is h)
+      pub encode_small : length d < a → record { answer = Err (TooSmall Out a); out = d } ≡ encode_desc max limit tx nd d
+      encode_small h = fits (Err (TooSmall Out a)) d (out_refused d (print w.tree) a size_is h)
 
-      pub encode_done : (R : Emitted) (d₁ d₂ : List ℕ) → length d < 18446744073709551616 → a ≤ length d
+      pub encode_done : (R : Option Emitted) (d₁ d₂ : List ℕ) → length d < 18446744073709551616 → a ≤ length d
           → told R d₁ ≡ emission tx (table limit nd 0 0) (record { out = d; place = 0 }) → d₂ ≡ clear_from d₁ a
-          → record { answer = Wrote a; out = d₂ } ≡ encode_desc max limit tx nd d
+          → record { answer = Ok a; out = d₂ } ≡ encode_desc max limit tx nd d
       encode_done R d₁ d₂ l h is c =
           let r : Roomy (record { out = d; place = 0 }) = record { short = omega arith; inside = omega arith } in
-          fits (Wrote a) d₂ (out_wrote d (print w.tree) a size_is h (whole_stored w R d₁ (record { out = d; place = 0 }) r is) c)
+          fits (Ok a) d₂ (out_wrote d (print w.tree) a size_is h (whole_stored w R d₁ (record { out = d; place = 0 }) r is) c)

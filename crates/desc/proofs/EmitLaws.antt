@@ -8,70 +8,70 @@ use lib.Dec.{eqb}
 use lib.ListN.{length}
 use borrow.Author.Tests.{eq-eqb, ne_eqb, eqb-true, eqb-false}
 use Rattle.varint.specs.Choice.{pick}
-use Rattle.varint.specs.Formats.{Got, got, bad, then}
+use Rattle.varint.specs.Got.{Got, then}
 use Rattle.varint.specs.declared.error.Fault.TheVariants.{Layout}
 use Rattle.varint.specs.declared.error.Refusal.TheVariants.{BadMessage}
 use Rattle.varint.proofs.Basics.{test}
 use Rattle.desc.specs.declared.write.Emitted.{Emitted}
-use Rattle.desc.specs.declared.write.Emitted.TheVariants.{Done, Wrong}
-use Rattle.desc.specs.Emitting.{Pen, put_number, put_where, put_label, put_tree, put_kids}
+use Rattle.desc.specs.Emitting.{Pen, put_number, put_where, put_label, put_tree, put_kids, emitted_to}
 use Rattle.desc.specs.Inner.Emission.{Emission, wrong, done, emission, told}
 use Rattle.desc.specs.Layout.{NameSpan}
 use Rattle.desc.specs.Table.{cell, node_fits, is_branch, kids_at, closed_at, table}
 use Rattle.desc.specs.Trees.{Tree, leaf, Kids, more, kid_count}
 use Rattle.desc.proofs.TableCells.{fits_not}
 use Rattle.desc.proofs.TableKids.{kid_count_lem}
+use Rattle.std.specs.Prelude.{Ok, Err, Some, None, Option}
 
 -- what writing the children that are left does to the buffer
 unfoldable pub kids_emission : List ℕ → ℕ → Got (Kids NameSpan) → Pen → Emission
-kids_emission tx tag (got ks next) s = done next (put_kids tx tag ks s)
-kids_emission tx tag (bad e) s = wrong
+kids_emission tx tag (Ok (ks, next)) s = done next (put_kids tx tag ks s)
+kids_emission tx tag (Err e) s = wrong
 
 module _ (tx : List ℕ) (tag : ℕ) (name : NameSpan) (d : ℕ) (s : Pen) where
   more_law : (t : Tree NameSpan) (K : Got (Kids NameSpan))
-      → kids_emission tx tag (then K (λ ks f. got (more name d t ks) f)) s ≡ kids_emission tx tag K (put_tree tx t (put_label tx tag name d s))
+      → kids_emission tx tag (then K (λ ks f. Ok (more name d t ks, f))) s ≡ kids_emission tx tag K (put_tree tx t (put_label tx tag name d s))
   unfolding kids_emission put_kids
-  more_law t (got ks f) = refl
-  more_law t (bad e) = refl
+  more_law t (Ok (ks, f)) = refl
+  more_law t (Err e) = refl
 
   abbrev first : Got (Tree NameSpan) → (ℕ → Got (Kids NameSpan)) → Got (Kids NameSpan)
-  first D K = then D (λ t e. then (K e) (λ ks f. got (more name d t ks) f))
+  first D K = then D (λ t e. then (K e) (λ ks f. Ok (more name d t ks, f)))
 
   first_done : (D : Got (Tree NameSpan)) (K : ℕ → Got (Kids NameSpan)) (m : ℕ) (s₂ : Pen) → done m s₂ ≡ emission tx D (put_label tx tag name d s)
       → kids_emission tx tag (first D K) s ≡ kids_emission tx tag (K m) s₂
   unfolding emission
-  first_done (got t e) K m s₂ h =
+  first_done (Ok (t, e)) K m s₂ h =
       let p : m ≡ e = cc in
       let q : s₂ ≡ put_tree tx t (put_label tx tag name d s) = cc in
       rw (p, q) (more_law t (K e))
-  first_done (bad e) K m s₂ h = let z : ◌≡◌ {A = ℕ} 0 1 = cc in absurd (omega arith)
+  first_done (Err e) K m s₂ h = let z : ◌≡◌ {A = ℕ} 0 1 = cc in absurd (omega arith)
 
   first_wrong : (D : Got (Tree NameSpan)) (K : ℕ → Got (Kids NameSpan)) → wrong ≡ emission tx D (put_label tx tag name d s) → kids_emission tx tag (first D K) s ≡ wrong
   unfolding emission kids_emission
-  first_wrong (got t e) K h = let z : ◌≡◌ {A = ℕ} 0 1 = cc in absurd (omega arith)
-  first_wrong (bad e) K h = refl
+  first_wrong (Ok (t, e)) K h = let z : ◌≡◌ {A = ℕ} 0 1 = cc in absurd (omega arith)
+  first_wrong (Err e) K h = refl
 
-module _ (r : ℕ → ℕ → Got (Tree NameSpan)) (tx nd : List ℕ) (tag count i m : ℕ) (s s₁ : Pen) (R : Emitted) (o : List ℕ) (less : i < count)
+module _ (r : ℕ → ℕ → Got (Tree NameSpan)) (tx nd : List ℕ) (tag count i m : ℕ) (s s₁ : Pen) (R : Option Emitted) (o : List ℕ) (less : i < count)
     (label : s₁ ≡ put_label tx tag (cell nd m 1, cell nd m 2) (cell nd m 3) s) (is : told R o ≡ emission tx (r m tag) s₁) where
-  pub turn_done : (m₂ a₂ : ℕ) → R ≡ Done m₂ a₂
+  pub turn_done : (m₂ a₂ : ℕ) → R ≡ Some (emitted_to m₂ a₂)
       → kids_emission tx tag (kids_at r nd tag (count - i) m) s ≡ kids_emission tx tag (kids_at r nd tag (count - (i + 1)) m₂) (record { out = o; place = a₂ })
   unfolding told kids_at
   turn_done m₂ a₂ h =
       let e : count - i ≡ suc (count - (i + 1)) = omega arith in
       rw e
       (first_done tx tag (cell nd m 1, cell nd m 2) (cell nd m 3) s (r m tag) (kids_at r nd tag (count - (i + 1))) m₂ (record { out = o; place = a₂ })
-      (ap (λ (x : Emitted). told x o) (sym h) ∙ is ∙ ap (emission tx (r m tag)) label))
+      (ap (λ (x : Option Emitted). told x o) (sym h) ∙ is ∙ ap (emission tx (r m tag)) label))
 
-  pub turn_wrong : R ≡ Wrong → kids_emission tx tag (kids_at r nd tag (count - i) m) s ≡ wrong
+  pub turn_wrong : R ≡ None → kids_emission tx tag (kids_at r nd tag (count - i) m) s ≡ wrong
   unfolding told kids_at
   turn_wrong h =
       let e : count - i ≡ suc (count - (i + 1)) = omega arith in
       rw e
       (first_wrong tx tag (cell nd m 1, cell nd m 2) (cell nd m 3) s (r m tag) (kids_at r nd tag (count - (i + 1)))
-      (ap (λ (x : Emitted). told x o) (sym h) ∙ is ∙ ap (emission tx (r m tag)) label))
+      (ap (λ (x : Option Emitted). told x o) (sym h) ∙ is ∙ ap (emission tx (r m tag)) label))
 
 -- a child that is not there
-table_outside : (d : ℕ) (nd : List ℕ) (m tag : ℕ) → length nd / 7 ≤ m → table d nd m tag ≡ bad (BadMessage Layout)
+table_outside : (d : ℕ) (nd : List ℕ) (m tag : ℕ) → length nd / 7 ≤ m → table d nd m tag ≡ Err (BadMessage Layout)
 unfolding table
 table_outside zero nd m tag h = refl
 table_outside (suc d) nd m tag h = rw (← fits_not nd m tag h)
@@ -88,41 +88,41 @@ deeper : (d : ℕ) (nd : List ℕ) (n parent : ℕ) → (d ≡ 0 → ⊥)
     ≡ pick (node_fits nd n parent)
     (pick (is_branch nd n)
     (closed_at (cell nd n 0) (cell nd n 6) (kids_at (table (d - 1) nd) nd (cell nd n 0) (cell nd n 5) (n + 1)))
-    (got (leaf (cell nd n 0) (cell nd n 4)) (n + 1)))
-    (bad (BadMessage Layout))
+    (Ok ((leaf (cell nd n 0) (cell nd n 4)), n + 1)))
+    (Err (BadMessage Layout))
 unfolding table
 deeper zero nd n parent h = absurd (h refl)
 deeper (suc d) nd n parent h = let e : suc d - 1 ≡ d = omega arith in rw e refl
 
 kids_wrong : (tx : List ℕ) (tag end : ℕ) (K : Got (Kids NameSpan)) (s s₁ : Pen) → kids_emission tx tag K s₁ ≡ wrong → wrong ≡ emission tx (closed_at tag end K) s
 unfolding kids_emission emission
-kids_wrong tx tag end (got ks m) s s₁ h = let z : ◌≡◌ {A = ℕ} 0 1 = cc in absurd (omega arith)
-kids_wrong tx tag end (bad e) s s₁ h = refl
+kids_wrong tx tag end (Ok (ks, m)) s s₁ h = let z : ◌≡◌ {A = ℕ} 0 1 = cc in absurd (omega arith)
+kids_wrong tx tag end (Err e) s s₁ h = refl
 
 kids_open : (tx : List ℕ) (tag end : ℕ) (K : Got (Kids NameSpan)) (m : ℕ) (s s₁ s₂ : Pen) → kids_emission tx tag K s₁ ≡ done m s₂ → (end ≡ m → ⊥)
     → wrong ≡ emission tx (closed_at tag end K) s
 unfolding kids_emission emission
-kids_open tx tag end (got ks e) m s s₁ s₂ h q = let p : m ≡ e = cc in rw (ne_eqb end e (λ x. q (x ∙ sym p)))
-kids_open tx tag end (bad e) m s s₁ s₂ h q = refl
+kids_open tx tag end (Ok (ks, e)) m s s₁ s₂ h q = let p : m ≡ e = cc in rw (ne_eqb end e (λ x. q (x ∙ sym p)))
+kids_open tx tag end (Err e) m s s₁ s₂ h q = refl
 
 kids_closed : (tx : List ℕ) (tag end count : ℕ) (K : Got (Kids NameSpan)) (m : ℕ) (s s₁ s₂ : Pen)
-    → ((ks : Kids NameSpan) (e : ℕ) → K ≡ got ks e → kid_count ks ≡ count)
+    → ((ks : Kids NameSpan) (e : ℕ) → K ≡ Ok (ks, e) → kid_count ks ≡ count)
     → kids_emission tx tag K s₁ ≡ done m s₂ → end ≡ m → s₁ ≡ put_number count (put_number tag s) → done m s₂ ≡ emission tx (closed_at tag end K) s
 unfolding kids_emission emission put_tree
-kids_closed tx tag end count (got ks e) m s s₁ s₂ c h q w =
+kids_closed tx tag end count (Ok (ks, e)) m s s₁ s₂ c h q w =
     let p : m ≡ e = cc in
     let f : put_kids tx tag ks s₁ ≡ s₂ = cc in
     rw (eq-eqb end e (q ∙ p), c ks e refl, ← w, f, p)
-kids_closed tx tag end count (bad x) m s s₁ s₂ c h q w = let z : ◌≡◌ {A = ℕ} 0 1 = cc in absurd (omega arith)
+kids_closed tx tag end count (Err x) m s s₁ s₂ c h q w = let z : ◌≡◌ {A = ℕ} 0 1 = cc in absurd (omega arith)
 
 -- The ways out of a node
 
 module _ (nd : List ℕ) (d n parent : ℕ) (z : d ≡ 0 → ⊥) {fits : Bool} (test : fits ≡ node_fits nd n parent) where
-  node_unfit : fits ≡ false → table d nd n parent ≡ bad (BadMessage Layout)
+  node_unfit : fits ≡ false → table d nd n parent ≡ Err (BadMessage Layout)
   node_unfit f = rw (deeper d nd n parent z, ← test, f)
 
   module _ (f : fits ≡ true) {parts : Bool} (test₂ : parts ≡ (eqb (cell nd n 0) 3 || eqb (cell nd n 0) 4)) where
-    pub node_leaf : parts ≡ false → table d nd n parent ≡ got (leaf (cell nd n 0) (cell nd n 4)) (n + 1)
+    pub node_leaf : parts ≡ false → table d nd n parent ≡ Ok ((leaf (cell nd n 0) (cell nd n 4)), n + 1)
     unfolding is_branch
     node_leaf b = rw (deeper d nd n parent z, ← test, f, ← test₂, b)
 
@@ -133,16 +133,16 @@ module _ (nd : List ℕ) (d n parent : ℕ) (z : d ≡ 0 → ⊥) {fits : Bool} 
     node_branch b = rw (deeper d nd n parent z, ← test, f, ← test₂, b)
 
 module _ (tx nd : List ℕ) (d n parent : ℕ) (s : Pen) (o : List ℕ) where
-  pub emit_deep : d ≡ 0 → told Wrong o ≡ emission tx (table d nd n parent) s
+  pub emit_deep : d ≡ 0 → told None o ≡ emission tx (table d nd n parent) s
   unfolding told emission table
   emit_deep z = rw z
 
-  pub emit_unfit : {fits : Bool} → (d ≡ 0 → ⊥) → fits ≡ node_fits nd n parent → fits ≡ false → told Wrong o ≡ emission tx (table d nd n parent) s
+  pub emit_unfit : {fits : Bool} → (d ≡ 0 → ⊥) → fits ≡ node_fits nd n parent → fits ≡ false → told None o ≡ emission tx (table d nd n parent) s
   unfolding told emission
   emit_unfit z test f = rw (node_unfit nd d n parent z test f)
 
-  pub emit_leaf : (tag p place : ℕ) → table d nd n parent ≡ got (leaf tag p) (n + 1)
-      → record { out = o; place = place } ≡ put_where (eqb tag 2) p (put_number tag s) → told (Done (n + 1) place) o ≡ emission tx (table d nd n parent) s
+  pub emit_leaf : (tag p place : ℕ) → table d nd n parent ≡ Ok (leaf tag p, n + 1)
+      → record { out = o; place = place } ≡ put_where (eqb tag 2) p (put_number tag s) → told (Some (emitted_to (n + 1) place)) o ≡ emission tx (table d nd n parent) s
   unfolding told emission put_tree
   emit_leaf tag p place is w = rw (is, ← w)
 
@@ -150,7 +150,7 @@ module _ (tx nd : List ℕ) (d n parent : ℕ) (s : Pen) (o : List ℕ) where
     abbrev kids : Got (Kids NameSpan)
     kids = kids_at (table (d - 1) nd) nd tag count (n + 1)
 
-    pub emit_stopped : kids_emission tx tag kids s₁ ≡ wrong → told Wrong o ≡ emission tx (table d nd n parent) s
+    pub emit_stopped : kids_emission tx tag kids s₁ ≡ wrong → told None o ≡ emission tx (table d nd n parent) s
     unfolding told
     emit_stopped h = rw is (kids_wrong tx tag (cell nd n 6) kids s s₁ h)
 
@@ -160,11 +160,11 @@ module _ (tx nd : List ℕ) (d n parent : ℕ) (s : Pen) (o : List ℕ) where
       unfolding kids_emission kids_at put_kids
       ended = let e : count - i ≡ 0 = omega arith in inv ∙ rw e
 
-      emit_open : (cell nd n 6 ≡ m → ⊥) → told Wrong o ≡ emission tx (table d nd n parent) s
+      emit_open : (cell nd n 6 ≡ m → ⊥) → told None o ≡ emission tx (table d nd n parent) s
       unfolding told
       emit_open q = rw is (kids_open tx tag (cell nd n 6) kids m s s₁ (record { out = o; place = a }) ended q)
 
-      emit_branch : cell nd n 6 ≡ m → s₁ ≡ put_where true count (put_number tag s) → told (Done m a) o ≡ emission tx (table d nd n parent) s
+      emit_branch : cell nd n 6 ≡ m → s₁ ≡ put_where true count (put_number tag s) → told (Some (emitted_to m a)) o ≡ emission tx (table d nd n parent) s
       unfolding told put_where
       emit_branch q w =
           rw is
@@ -173,7 +173,7 @@ module _ (tx nd : List ℕ) (d n parent : ℕ) (s : Pen) (o : List ℕ) where
           ended q w)
 
       -- by the comparison of its end
-      pub emit_closed : (R : Emitted) → s₁ ≡ put_where true count (put_number tag s) → R ≡ pick (eqb (cell nd n 6) m) (Done m a) Wrong
+      pub emit_closed : (R : Option Emitted) → s₁ ≡ put_where true count (put_number tag s) → R ≡ pick (eqb (cell nd n 6) m) (Some (emitted_to m a)) None
           → told R o ≡ emission tx (table d nd n parent) s
       emit_closed R w h =
           test (eqb (cell nd n 6) m)

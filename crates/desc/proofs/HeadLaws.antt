@@ -7,86 +7,84 @@ use native.Mathlib.Omega.{arith}
 use lib.Dec.{ltb, eqb}
 use lib.ListN.{length}
 use Rattle.varint.specs.Leb128.{get_u64}
-use Rattle.varint.specs.Texts.{get_name}
-use Rattle.varint.specs.declared.ReadU64.{ReadU64}
-use Rattle.varint.specs.declared.ReadU64.TheVariants.{Value, Refused as NoValue}
-use Rattle.varint.specs.declared.text.ReadText.{ReadText}
-use Rattle.varint.specs.declared.text.ReadText.TheVariants.{Text, Refused as NoText}
+use Rattle.varint.specs.Texts.{get_name, span}
 use Rattle.varint.proofs.Basics.{pick_both}
 use Rattle.varint.proofs.FormatParts.{text_inside, get_name_lem}
 use Rattle.varint.proofs.TextLaws.{TextEnds, skim_ends}
 use Rattle.varint.proofs.ReadLaws.{Ends, get_ends}
 use Rattle.desc.specs.declared.head.Head.{Head}
-use Rattle.desc.specs.declared.head.Head.TheVariants.{Leaf, Branch, Refused as NoHead}
+use Rattle.desc.specs.declared.head.Head.TheVariants.{Leaf, Branch}
 use Rattle.desc.specs.declared.head.Label.{Label}
-use Rattle.desc.specs.declared.head.Label.TheVariants.{Named, Refused as NoLabel}
-use Rattle.desc.specs.Reading.{fact_on, count_on, head_on, head_at, name_by, discriminant_on, label_on, label_at}
+use Rattle.desc.specs.Reading.{fact_on, count_on, head_on, head_at, name_by, discriminant_on, label_on, label_at, named_label}
+use Rattle.std.specs.Prelude.{Ok, Err}
+use Rattle.varint.specs.Got.{Got}
+use Rattle.varint.specs.declared.text.Span.{Span}
 
 -- past the place lo, and at most at hi
-abbrev pub HeadEnds : ℕ → ℕ → Head → Type 0
-HeadEnds lo hi (Leaf tag p next) = (lo < next) × (next ≤ hi)
-HeadEnds lo hi (Branch tag n next) = (lo < next) × (next ≤ hi)
-HeadEnds lo hi (NoHead r) = Unit
+abbrev pub HeadEnds : ℕ → ℕ → Got Head → Type 0
+HeadEnds lo hi (Ok (Leaf tag p, next)) = (lo < next) × (next ≤ hi)
+HeadEnds lo hi (Ok (Branch tag n, next)) = (lo < next) × (next ≤ hi)
+HeadEnds lo hi (Err r) = Unit
 
-abbrev pub LabelEnds : ℕ → ℕ → Label → Type 0
-LabelEnds lo hi (Named start n d next) = (lo < start) × (start + n ≤ next) × (next ≤ hi)
-LabelEnds lo hi (NoLabel r) = Unit
+abbrev pub LabelEnds : ℕ → ℕ → Got Label → Type 0
+LabelEnds lo hi (Ok (l, next)) = (lo < l.name.start) × (l.name.start + l.name.len ≤ next) × (next ≤ hi)
+LabelEnds lo hi (Err r) = Unit
 
-fact_ends : (x : ReadU64) (lo p hi : ℕ) → lo < p → Ends p hi x → HeadEnds lo hi (fact_on x)
-fact_ends (Value n next) lo p hi h e = pick_both (HeadEnds lo hi) (ltb 0xFFFFFFFF n) tt (omega arith, e.1)
-fact_ends (NoValue r) lo p hi h e = tt
+fact_ends : (x : Got ℕ) (lo p hi : ℕ) → lo < p → Ends p hi x → HeadEnds lo hi (fact_on x)
+fact_ends (Ok (n, next)) lo p hi h e = pick_both (HeadEnds lo hi) (ltb 0xFFFFFFFF n) tt (omega arith, e.1)
+fact_ends (Err r) lo p hi h e = tt
 
-count_ends : (s : List ℕ) (at tag : ℕ) (x : ReadU64) (lo p hi : ℕ) → lo < p → Ends p hi x → HeadEnds lo hi (count_on s at tag x)
-count_ends s at tag (Value n next) lo p hi h e = pick_both (HeadEnds lo hi) (ltb (length s - at) n) tt (omega arith, e.1)
-count_ends s at tag (NoValue r) lo p hi h e = tt
+count_ends : (s : List ℕ) (at tag : ℕ) (x : Got ℕ) (lo p hi : ℕ) → lo < p → Ends p hi x → HeadEnds lo hi (count_on s at tag x)
+count_ends s at tag (Ok (n, next)) lo p hi h e = pick_both (HeadEnds lo hi) (ltb (length s - at) n) tt (omega arith, e.1)
+count_ends s at tag (Err r) lo p hi h e = tt
 
 pub head_ends : (s : List ℕ) (at : ℕ) → HeadEnds at (length s) (head_at s at)
 unfolding head_at
 head_ends s at = on (get_u64 s at) (get_ends s at)
   where
-    on : (x : ReadU64) → Ends at (length s) x → HeadEnds at (length s) (head_on s at x)
-    on (Value tag next) e =
-        let P : Head → Type 0 = HeadEnds at (length s) in
+    on : (x : Got ℕ) → Ends at (length s) x → HeadEnds at (length s) (head_on s at x)
+    on (Ok (tag, next)) e =
+        let P : Got Head → Type 0 = HeadEnds at (length s) in
         let g = get_ends s next in
         pick_both P (eqb tag 2) (fact_ends (get_u64 s next) at next (length s) e.0 g)
         (pick_both P (eqb tag 3 || eqb tag 4) (count_ends s at tag (get_u64 s next) at next (length s) e.0 g)
         (pick_both P (ltb 5 tag) tt e))
-    on (NoValue r) e = tt
+    on (Err r) e = tt
 
 name_ends : (check : Bool) (s : List ℕ) (at : ℕ) → TextEnds at (length s) (name_by check s at)
 name_ends true s at = on (get_name s at) refl
   where
-    on : (x : ReadText) → get_name s at ≡ x → TextEnds at (length s) x
-    on (Text start n next) e = text_inside s at start n next (sym (get_name_lem s at) ∙ e)
-    on (NoText r) e = tt
+    on : (x : Got Span) → get_name s at ≡ x → TextEnds at (length s) x
+    on (Ok (t, next)) e = text_inside s at t.start t.len next (sym (get_name_lem s at) ∙ e)
+    on (Err r) e = tt
 name_ends false s at = skim_ends s at
 
-discriminant_ends : (start n : ℕ) (x : ReadU64) (lo p hi : ℕ) → lo < start → start + n ≤ p → Ends p hi x → LabelEnds lo hi (discriminant_on start n x)
-discriminant_ends start n (Value d next) lo p hi h k e =
+discriminant_ends : (t : Span) (x : Got ℕ) (lo p hi : ℕ) → lo < t.start → t.start + t.len ≤ p → Ends p hi x → LabelEnds lo hi (discriminant_on t x)
+discriminant_ends t (Ok (d, next)) lo p hi h k e =
     let e₀ = e.0 in
     pick_both (LabelEnds lo hi) (ltb 0xFFFFFFFF d) tt (h, omega arith, e.1)
-discriminant_ends start n (NoValue r) lo p hi h k e = tt
+discriminant_ends t (Err r) lo p hi h k e = tt
 
 pub label_ends : (check : Bool) (s : List ℕ) (tag p : ℕ) → LabelEnds p (length s) (label_at check s tag p)
 unfolding label_at
 label_ends check s tag p = on (name_by check s p) (name_ends check s p)
   where
-    on : (x : ReadText) → TextEnds p (length s) x → LabelEnds p (length s) (label_on s tag x)
-    on (Text start n next) e =
+    on : (x : Got Span) → TextEnds p (length s) x → LabelEnds p (length s) (label_on s tag x)
+    on (Ok (t, next)) e =
         let e₁ = e.1 in
-        let le : start + n ≤ next = omega arith in
+        let le : t.start + t.len ≤ next = omega arith in
         pick_both (LabelEnds p (length s)) (eqb tag 4)
-        (discriminant_ends start n (get_u64 s next) p next (length s) e.0 le (get_ends s next))
+        (discriminant_ends t (get_u64 s next) p next (length s) e.0 le (get_ends s next))
         (e.0, le, e.2)
-    on (NoText r) e = tt
+    on (Err r) e = tt
 
 -- of a start or a label that is known
-pub leaf_inside : (s : List ℕ) (at tag p q : ℕ) → head_at s at ≡ Leaf tag p q → (at < q) × (q ≤ length s)
+pub leaf_inside : (s : List ℕ) (at tag p q : ℕ) → head_at s at ≡ Ok (Leaf tag p, q) → (at < q) × (q ≤ length s)
 leaf_inside s at tag p q e = rw e at (head_ends s at)
 
-pub branch_inside : (s : List ℕ) (at tag n q : ℕ) → head_at s at ≡ Branch tag n q → (at < q) × (q ≤ length s)
+pub branch_inside : (s : List ℕ) (at tag n q : ℕ) → head_at s at ≡ Ok (Branch tag n, q) → (at < q) × (q ≤ length s)
 branch_inside s at tag n q e = rw e at (head_ends s at)
 
 pub label_inside : (check : Bool) (s : List ℕ) (tag p start n d q : ℕ)
-    → label_at check s tag p ≡ Named start n d q → (p < start) × (start + n ≤ q) × (q ≤ length s)
+    → label_at check s tag p ≡ Ok (named_label (span start n) d, q) → (p < start) × (start + n ≤ q) × (q ≤ length s)
 label_inside check s tag p start n d q e = rw e at (label_ends check s tag p)

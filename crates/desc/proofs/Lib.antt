@@ -11,6 +11,7 @@ pub mod EmitPut
 pub mod EmitSize
 pub mod EmitSpan
 pub mod EmitWhole
+pub mod Emitteds
 pub mod FillLaws
 pub mod FineRead
 pub mod GatherFine

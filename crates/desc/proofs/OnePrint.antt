@@ -8,48 +8,46 @@ use lib.Dec.{ltb, eqb}
 use lib.ListN.{length}
 use borrow.Author.Tests.{eqb-true}
 use Rattle.varint.specs.Choice.{pick}
-use Rattle.varint.specs.Formats.{got, got_number, got_text, print_text}
+use Rattle.varint.specs.Formats.{got_text, print_text}
 use Rattle.varint.specs.Leb128.{get_u64, put_u64}
 use Rattle.varint.specs.RoundTrips.{Bytes, Stands}
 use Rattle.varint.specs.Stores.{part}
 use Rattle.varint.specs.Texts.{get_name}
-use Rattle.varint.specs.declared.ReadU64.{ReadU64}
-use Rattle.varint.specs.declared.ReadU64.TheVariants.{Value, Refused as NoValue}
-use Rattle.varint.specs.declared.text.ReadText.{ReadText}
-use Rattle.varint.specs.declared.text.ReadText.TheVariants.{Text, Refused as NoText}
 use Rattle.varint.proofs.Basics.{pick_cases}
 use Rattle.varint.proofs.FormatForth.{joined, varint_forth, name_forth}
 use Rattle.desc.specs.declared.head.Head.{Head}
-use Rattle.desc.specs.declared.head.Head.TheVariants.{Leaf, Branch, Refused as NoHead}
+use Rattle.desc.specs.declared.head.Head.TheVariants.{Leaf, Branch}
 use Rattle.desc.specs.declared.head.Label.{Label}
-use Rattle.desc.specs.declared.head.Label.TheVariants.{Named, Refused as NoLabel}
 use Rattle.desc.specs.Printing.{print, print_kids}
 use Rattle.desc.specs.Reading.{fact_on, count_on, head_on, head_at, discriminant_on, label_on, label_at, desc}
 use Rattle.desc.specs.Trees.{Tree, leaf, branch, Kids, more, kid_count}
 use Rattle.desc.proofs.GotAs.{got_as}
 use Rattle.desc.proofs.ReadInduction.{Steps, desc_as}
+use Rattle.std.specs.Prelude.{Ok, Err}
+use Rattle.varint.specs.Got.{Got}
+use Rattle.varint.specs.declared.text.Span.{Span}
 
 module _ (s : List ℕ) (B : Bytes s) where
-  number : (at n q : ℕ) → at ≤ length s → get_u64 s at ≡ Value n q → Stands (put_u64 n) s at q
-  number at n q h e = varint_forth.forth s at n q B h (ap got_number e)
+  number : (at n q : ℕ) → at ≤ length s → get_u64 s at ≡ Ok (n, q) → Stands (put_u64 n) s at q
+  number at n q h e = varint_forth.forth s at n q B h e
 
   -- The start of a descriptor
 
-  abbrev HeadStands : ℕ → Head → Type 0
-  HeadStands at (Leaf tag p next) = Stands (print (leaf tag p)) s at next
-  HeadStands at (Branch tag n next) = Stands (put_u64 tag ++ put_u64 n) s at next
-  HeadStands at (NoHead e) = Unit
+  abbrev HeadStands : ℕ → Got Head → Type 0
+  HeadStands at (Ok (Leaf tag p, next)) = Stands (print (leaf tag p)) s at next
+  HeadStands at (Ok (Branch tag n, next)) = Stands (put_u64 tag ++ put_u64 n) s at next
+  HeadStands at (Err e) = Unit
 
-  fact_stands : (at next : ℕ) → Stands (put_u64 2) s at next → (r : ReadU64) → get_u64 s next ≡ r → HeadStands at (fact_on r)
+  fact_stands : (at next : ℕ) → Stands (put_u64 2) s at next → (r : Got ℕ) → get_u64 s next ≡ r → HeadStands at (fact_on r)
   unfolding print
-  fact_stands at next t (NoValue e) i = tt
-  fact_stands at next t (Value n q) i =
+  fact_stands at next t (Err e) i = tt
+  fact_stands at next t (Ok (n, q)) i =
       pick_cases (HeadStands at) (ltb 0xFFFFFFFF n) (λ _. tt)
       (λ _. joined (put_u64 2) (put_u64 n) s at next q t (number next n q t.inside i))
 
-  count_stands : (at next tag : ℕ) → Stands (put_u64 tag) s at next → (r : ReadU64) → get_u64 s next ≡ r → HeadStands at (count_on s at tag r)
-  count_stands at next tag t (NoValue e) i = tt
-  count_stands at next tag t (Value n q) i =
+  count_stands : (at next tag : ℕ) → Stands (put_u64 tag) s at next → (r : Got ℕ) → get_u64 s next ≡ r → HeadStands at (count_on s at tag r)
+  count_stands at next tag t (Err e) i = tt
+  count_stands at next tag t (Ok (n, q)) i =
       pick_cases (HeadStands at) (ltb (length s - at) n) (λ _. tt)
       (λ _. joined (put_u64 tag) (put_u64 n) s at next q t (number next n q t.inside i))
 
@@ -61,9 +59,9 @@ module _ (s : List ℕ) (B : Bytes s) where
   unfolding head_at
   head_stands at h = go (get_u64 s at) refl
     where
-      go : (r : ReadU64) → get_u64 s at ≡ r → HeadStands at (head_on s at r)
-      go (NoValue e) i = tt
-      go (Value tag next) i =
+      go : (r : Got ℕ) → get_u64 s at ≡ r → HeadStands at (head_on s at r)
+      go (Err e) i = tt
+      go (Ok (tag, next)) i =
           let t = number at tag next h i in
           pick_cases (HeadStands at) (eqb tag 2) (λ e. fact_stands at next (rw (eqb-true tag 2 e) at t) (get_u64 s next) refl)
           (λ e.
@@ -72,26 +70,26 @@ module _ (s : List ℕ) (B : Bytes s) where
 
   -- What stands before a part
 
-  abbrev LabelStands : ℕ → ℕ → Label → Type 0
-  LabelStands tag p (Named start n d next) = Stands (print_text (part s start n) ++ pick (eqb tag 4) (put_u64 d) []) s p next
-  LabelStands tag p (NoLabel e) = Unit
+  abbrev LabelStands : ℕ → ℕ → Got Label → Type 0
+  LabelStands tag p (Ok (l, next)) = Stands (print_text (part s l.name.start l.name.len) ++ pick (eqb tag 4) (put_u64 l.discriminant) []) s p next
+  LabelStands tag p (Err e) = Unit
 
   label_stands : (tag p : ℕ) → p ≤ length s → LabelStands tag p (label_at true s tag p)
   unfolding label_at
   label_stands tag p h = go (get_name s p) refl
     where
-      some : (start n next : ℕ) → eqb tag 4 ≡ true → Stands (print_text (part s start n)) s p next → (r : ReadU64) → get_u64 s next ≡ r
-          → LabelStands tag p (discriminant_on start n r)
-      some start n next e t (NoValue f) i = tt
-      some start n next e t (Value d q) i =
+      some : (a : Span) (next : ℕ) → eqb tag 4 ≡ true → Stands (print_text (part s a.start a.len)) s p next → (r : Got ℕ) → get_u64 s next ≡ r
+          → LabelStands tag p (discriminant_on a r)
+      some a next e t (Err f) i = tt
+      some a next e t (Ok (d, q)) i =
           pick_cases (LabelStands tag p) (ltb 0xFFFFFFFF d) (λ _. tt)
-          (λ _. rw e (joined (print_text (part s start n)) (put_u64 d) s p next q t (number next d q t.inside i)))
+          (λ _. rw e (joined (print_text (part s a.start a.len)) (put_u64 d) s p next q t (number next d q t.inside i)))
 
-      go : (x : ReadText) → get_name s p ≡ x → LabelStands tag p (label_on s tag x)
-      go (NoText e) i = tt
-      go (Text start n next) i =
-          let t = name_forth.forth s p (part s start n) next B h (ap (got_text s) i) in
-          pick_cases (LabelStands tag p) (eqb tag 4) (λ e. some start n next e t (get_u64 s next) refl) (λ e. rw (e, append-nil) t)
+      go : (x : Got Span) → get_name s p ≡ x → LabelStands tag p (label_on s tag x)
+      go (Err e) i = tt
+      go (Ok (a, next)) i =
+          let t = name_forth.forth s p (part s a.start a.len) next B h (ap (got_text s) i) in
+          pick_cases (LabelStands tag p) (eqb tag 4) (λ e. some a next e t (get_u64 s next) refl) (λ e. rw (e, append-nil) t)
 
   -- Descriptors
 
@@ -131,6 +129,6 @@ module _ (s : List ℕ) (B : Bytes s) where
 
 -- what was read stands there as it is printed
 pub print_read : (limit depth : ℕ) (s : List ℕ) (at : ℕ) (tr : Tree (List ℕ)) (q : ℕ) → Bytes s → at ≤ length s
-    → desc true limit depth s at ≡ got tr q → Stands (print tr) s at q
+    → desc true limit depth s at ≡ Ok (tr, q) → Stands (print tr) s at q
 print_read limit depth s at tr q B l e =
     got_as (λ t r. at ≤ length s → Stands (print t) s at r) (desc true limit depth s at) tr q (desc_as true limit s _ _ (stand_steps s B limit) depth at) e l

@@ -5,32 +5,33 @@ use Prim.Native.Nat.{ℕ, suc, ◌+◌, ◌*◌, ◌≤◌}
 use native.Mathlib.Omega.{arith}
 use lib.ListN.{length, length-append}
 use lib.Seq.{sets}
-use Rattle.varint.specs.Formats.{Got, got, bad, then}
+use Rattle.varint.specs.Got.{Got, then, got}
 use Rattle.varint.specs.declared.error.Refusal.{Refusal}
 use Rattle.varint.proofs.StoreLaws.{sets_append, sets_back}
 use Rattle.desc.specs.declared.Walked.{Walked}
-use Rattle.desc.specs.declared.Walked.TheVariants.{Read, Refused as NotRead}
-use Rattle.desc.specs.Decoding.{stored_as}
+use Rattle.desc.specs.Decoding.{stored_as, walked_to}
 use Rattle.desc.specs.Layout.{NameSpan, width, node_of, texts, kid_texts, placed, placed_kids, nodes_of, kid_nodes}
 use Rattle.desc.specs.Trees.{Tree, branch, Kids, more, kid_count, size, kid_size}
 use Rattle.desc.specs.Inner.Walking.{Outcome, refused, done, outcome, Agrees}
 use Rattle.desc.proofs.LayoutLaws.{size_placed, kids_placed, count_placed, length_placed}
+use Rattle.desc.proofs.MeasureLaws.{walked_of}
+use Rattle.std.specs.Prelude.{Ok, Err, Result}
 
 -- what reading the children that are left does to the buffers, where i were read before them
 unfoldable pub outcome_kids : Got (Kids (List ℕ)) → (i : ℕ) (tx : List ℕ) (t : ℕ) (nd : List ℕ) (m : ℕ) → Outcome
-outcome_kids (bad e) i tx t nd m = refused e
-outcome_kids (got ks q) i tx t nd m =
+outcome_kids (Err e) i tx t nd m = refused e
+outcome_kids (Ok (ks, q)) i tx t nd m =
     done q (t + length (kid_texts ks)) (m + kid_size ks) (i + kid_count ks)
     (record { text = sets tx t (kid_texts ks); nodes = sets nd (m * width) (kid_nodes (placed_kids ks t) m) })
 
 pub more_law : (R : Got (Kids (List ℕ))) (name : List ℕ) (d : ℕ) (tr : Tree (List ℕ)) (i : ℕ) (tx : List ℕ) (t : ℕ) (nd : List ℕ) (m : ℕ)
-    → outcome_kids (then R (λ ks f. got (more name d tr ks) f)) i tx t nd m
+    → outcome_kids (then R (λ ks f. Ok (more name d tr ks, f))) i tx t nd m
     ≡ outcome_kids R (i + 1) (sets (sets tx t name) (t + length name) (texts tr))
     (t + length name + length (texts tr))
     (sets nd (m * width) (nodes_of (placed tr (t + length name)) m (t, length name) d)) (m + size tr)
 unfolding outcome_kids texts size kid_count placed nodes_of
-more_law (bad e) name d tr i tx t nd m = refl
-more_law (got ks q) name d tr i tx t nd m =
+more_law (Err e) name d tr i tx t nd m = refl
+more_law (Ok (ks, q)) name d tr i tx t nd m =
     let T = texts tr in
     let K = kid_texts ks in
     let o = t + length name in
@@ -53,10 +54,10 @@ close_row tag n name d (done q t m c st) =
     done q t m 0 (record { text = st.text; nodes = sets st.nodes (n * width) (node_of tag name.0 name.1 d 0 c m) })
 
 pub closed_law : (tag : ℕ) (R : Got (Kids (List ℕ))) (tx : List ℕ) (t : ℕ) (nd : List ℕ) (n : ℕ) (name : NameSpan) (d : ℕ)
-    → outcome (then R (λ ks e. got (branch tag ks) e)) tx t nd n name d ≡ close_row tag n name d (outcome_kids R 0 tx t nd (n + 1))
+    → outcome (then R (λ ks e. Ok (branch tag ks, e))) tx t nd n name d ≡ close_row tag n name d (outcome_kids R 0 tx t nd (n + 1))
 unfolding outcome_kids outcome stored_as close_row texts size kid_count placed nodes_of
-closed_law tag (bad e) tx t nd n name d = refl
-closed_law tag (got ks q) tx t nd n name d =
+closed_law tag (Err e) tx t nd n name d = refl
+closed_law tag (Ok (ks, q)) tx t nd n name d =
     let e₁ : n + suc (kid_size ks) ≡ n + 1 + kid_size ks = omega arith in
     let e₂ : 0 + kid_count ks ≡ kid_count ks = omega arith in
     let e₃ : (n + 1) * width ≡ n * width + width = omega arith in
@@ -67,17 +68,17 @@ closed_law tag (got ks q) tx t nd n name d =
 
 -- what a contract tells of a refusal
 pub agrees_refused : (D : Got (Tree (List ℕ))) (tx : List ℕ) (t : ℕ) (nd : List ℕ) (n : ℕ) (name : NameSpan)
-    (d end : ℕ) (r : Walked) (tx' nd' : List ℕ) (e : Refusal)
-    → Agrees (outcome D tx t nd n name d) end r tx' nd' → r ≡ NotRead e → D ≡ bad e
+    (d end : ℕ) (r : Result Walked Refusal) (tx' nd' : List ℕ) (e : Refusal)
+    → Agrees (outcome D tx t nd n name d) end r tx' nd' → r ≡ Err e → D ≡ Err e
 unfolding Agrees outcome
-agrees_refused (bad x) tx t nd n name d end r tx' nd' e a h = cc
-agrees_refused (got tr q) tx t nd n name d end r tx' nd' e a h = let a₀ = a.0 in cc
+agrees_refused (Err x) tx t nd n name d end r tx' nd' e a h = cc
+agrees_refused (Ok (tr, q)) tx t nd n name d end r tx' nd' e a h = let a₀ = a.0 in cc
 
 -- and of a descriptor that was read
 pub record Facts (D : Got (Tree (List ℕ))) (tx : List ℕ) (t : ℕ) (nd : List ℕ) (n : ℕ) (name : NameSpan)
     (d end : ℕ) (tx' nd' : List ℕ) (q t' m : ℕ) : Type 0 where
   pub tree : Tree (List ℕ)
-  pub is : D ≡ got tree q
+  pub is : D ≡ Ok (tree, q)
   pub text_end : t' ≡ t + length (texts tree)
   pub node_end : m ≡ n + size tree
   pub text_is : tx' ≡ sets tx t (texts tree)
@@ -86,22 +87,23 @@ pub record Facts (D : Got (Tree (List ℕ))) (tx : List ℕ) (t : ℕ) (nd : Lis
   pub within : q ≤ end
 
 pub agrees_read : (D : Got (Tree (List ℕ))) (tx : List ℕ) (t : ℕ) (nd : List ℕ) (n : ℕ) (name : NameSpan)
-    (d end : ℕ) (r : Walked) (tx' nd' : List ℕ) (q t' m : ℕ)
-    → Agrees (outcome D tx t nd n name d) end r tx' nd' → r ≡ Read q t' m → Facts D tx t nd n name d end tx' nd' q t' m
+    (d end : ℕ) (r : Result Walked Refusal) (tx' nd' : List ℕ) (q t' m : ℕ)
+    → Agrees (outcome D tx t nd n name d) end r tx' nd' → r ≡ Ok (walked_to q t' m) → Facts D tx t nd n name d end tx' nd' q t' m
 unfolding Agrees outcome stored_as
-agrees_read (bad x) tx t nd n name d end r tx' nd' q t' m a h = let z : ◌≡◌ {A = ℕ} 0 1 = cc in absurd (omega arith)
-agrees_read (got tr o) tx t nd n name d end r tx' nd' q t' m a h =
+agrees_read (Err x) tx t nd n name d end r tx' nd' q t' m a h = let z : ◌≡◌ {A = ℕ} 0 1 = cc in absurd (omega arith)
+agrees_read (Ok (tr, o)) tx t nd n name d end r tx' nd' q t' m a h =
     let a₀ = a.0 in
     let a₃ = a.3 in
     let a₄ = a.4 in
-    let eq : o ≡ q = cc in
-    let et : t + length (texts tr) ≡ t' = cc in
-    let em : n + size tr ≡ m = cc in
+    let w = walked_of (sym a₀ ∙ h) in
+    let w₀ = w.0 in
+    let w₁ = w.1 in
+    let w₂ = w.2 in
     record {
       tree = tr;
-      is = ap (got tr) eq;
-      text_end = sym et;
-      node_end = sym em;
+      is = ap (λ (z : ℕ). got tr z) w₀;
+      text_end = sym w₁;
+      node_end = sym w₂;
       text_is = a.1;
       nodes_are = a.2;
       below = omega arith;

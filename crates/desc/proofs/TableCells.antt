@@ -14,9 +14,9 @@ use Rattle.varint.specs.declared.error.Fault.TheVariants.{Texts}
 use Rattle.varint.specs.declared.error.Refusal.TheVariants.{BadMessage, BadString}
 use Rattle.varint.proofs.Basics.{below, clash}
 use Rattle.varint.proofs.Utf8Laws.{utf8_at_in}
-use Rattle.desc.specs.declared.write.Names.TheVariants.{Good, Refused}
 use Rattle.desc.specs.Emitting.{verdict}
 use Rattle.desc.specs.Table.{cell, root_name, discriminant_fits, predicate_fits, is_branch, leaf_fits, node_fits}
+use Rattle.std.specs.Prelude.{Ok, Err}
 
 pub cell_past : (nd : List ℕ) (n c : ℕ) → length nd ≤ n * 7 + c → 0 ≡ cell nd n c
 cell_past nd n c h = sym (get_or-eq_default nd 0 h)
@@ -51,14 +51,14 @@ module _ (nd : List ℕ) (n parent : ℕ) where
   fits_inside test is = ⊎_elim (λ (h : n < length nd / 7). h) (λ (h : length nd / 7 ≤ n). clash (sym test ∙ is) (sym (fits_not h))) (below n (length nd / 7))
 
 module _ (tx : List ℕ) (start len : ℕ) where
-  pub name_past : length tx < start + len → Refused (BadMessage Texts) ≡ verdict (name_held tx start len)
+  pub name_past : length tx < start + len → Err (BadMessage Texts) ≡ verdict (name_held tx start len)
   unfolding verdict name_held text_held
   name_past h = rw (lt-ltb (length tx) (start + len) h)
 
-  pub name_good : {t : Bool} → start + len ≤ length tx → t ≡ utf8_at tx start len → t ≡ true → Good ≡ verdict (name_held tx start len)
+  pub name_good : {t : Bool} → start + len ≤ length tx → t ≡ utf8_at tx start len → t ≡ true → Ok tt ≡ verdict (name_held tx start len)
   unfolding verdict name_held text_held
   name_good h e is = rw (le-ltb (length tx) (start + len) h, ← utf8_at_in tx start len h, ← e, is)
 
-  pub name_bad : {t : Bool} → start + len ≤ length tx → t ≡ utf8_at tx start len → t ≡ false → Refused BadString ≡ verdict (name_held tx start len)
+  pub name_bad : {t : Bool} → start + len ≤ length tx → t ≡ utf8_at tx start len → t ≡ false → Err BadString ≡ verdict (name_held tx start len)
   unfolding verdict name_held text_held
   name_bad h e is = rw (le-ltb (length tx) (start + len) h, ← utf8_at_in tx start len h, ← e, is)

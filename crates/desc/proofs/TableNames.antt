@@ -5,36 +5,35 @@ use Prim.Native.Nat.{ℕ, zero, suc, ◌+◌, ◌-◌, ◌≤◌, ◌<◌}
 use native.Mathlib.Nat.{zero-add}
 use native.Mathlib.Omega.{arith}
 use lib.Dec.{eqb}
-use Rattle.varint.specs.Formats.{Got, got, bad, then}
+use Rattle.varint.specs.Got.{Got, then}
 use Rattle.varint.specs.Gathering.{Held, held, lacks, then_held, name_held}
 use Rattle.varint.specs.declared.error.Fault.TheVariants.{Layout}
 use Rattle.varint.specs.declared.error.Refusal.{Refusal}
 use Rattle.varint.specs.declared.error.Refusal.TheVariants.{BadMessage}
 use Rattle.varint.proofs.Basics.{pick_both}
-use Rattle.desc.specs.declared.write.Names.{Names}
-use Rattle.desc.specs.declared.write.Names.TheVariants.{Good, Refused}
 use Rattle.desc.specs.Emitting.{verdict, then_names, names_from}
 use Rattle.desc.specs.Layout.{NameSpan}
 use Rattle.desc.specs.Table.{cell, node_fits, is_branch, kids_at, closed_at, table, gather, gather_kids}
 use Rattle.desc.specs.Trees.{Tree, leaf, branch, Kids, none, more, size, kid_size}
+use Rattle.std.specs.Prelude.{Ok, Err, Result}
 
 -- The loop over the nodes
 
-module _ (tx nd : List ℕ) (m end start len : ℕ) (r : Names) (first : start ≡ cell nd m 1) (long : len ≡ cell nd m 2)
+module _ (tx nd : List ℕ) (m end start len : ℕ) (r : Result (Unit {0}) Refusal) (first : start ≡ cell nd m 1) (long : len ≡ cell nd m 2)
     (is : r ≡ verdict (name_held tx start len)) (less : m < end) where
   at_node : names_from tx nd m (end - m) ≡ then_names r (names_from tx nd (m + 1) (end - (m + 1)))
   unfolding names_from
   at_node = let e : end - m ≡ suc (end - (m + 1)) = omega arith in rw (e, is, first, long)
 
-  pub names_good : r ≡ Good → names_from tx nd m (end - m) ≡ names_from tx nd (m + 1) (end - (m + 1))
+  pub names_good : r ≡ Ok tt → names_from tx nd m (end - m) ≡ names_from tx nd (m + 1) (end - (m + 1))
   unfolding then_names
   names_good g = at_node ∙ rw g
 
-  pub names_refused : (e : Refusal) → r ≡ Refused e → names_from tx nd m (end - m) ≡ Refused e
+  pub names_refused : (e : Refusal) → r ≡ Err e → names_from tx nd m (end - m) ≡ Err e
   unfolding then_names
   names_refused e g = at_node ∙ rw g
 
-pub names_end : (tx nd : List ℕ) (m end : ℕ) → end ≤ m → names_from tx nd m (end - m) ≡ Good
+pub names_end : (tx nd : List ℕ) (m end : ℕ) → end ≤ m → names_from tx nd m (end - m) ≡ Ok tt
 unfolding names_from
 names_end tx nd m end h = let e : end - m ≡ 0 = omega arith in rw e
 
@@ -50,17 +49,17 @@ unfolding size
 size_under (leaf tag p) = refl
 size_under (branch tag ks) = refl
 
-then_good : (v : Names) → then_names v Good ≡ v
+then_good : (v : Result (Unit {0}) Refusal) → then_names v (Ok tt) ≡ v
 unfolding then_names
-then_good Good = refl
-then_good (Refused e) = refl
+then_good (Ok tt) = refl
+then_good (Err e) = refl
 
 verdict_kids : (tag : ℕ) (c : Held (Kids (List ℕ))) → verdict (then_held c (λ l. held (branch tag l))) ≡ verdict c
 unfolding verdict
 verdict_kids tag (held l) = refl
 verdict_kids tag (lacks e) = refl
 
-verdict_more : (a : Held (List ℕ)) (b : Held (Tree (List ℕ))) (c : Held (Kids (List ℕ))) (d : ℕ) (z : Names)
+verdict_more : (a : Held (List ℕ)) (b : Held (Tree (List ℕ))) (c : Held (Kids (List ℕ))) (d : ℕ) (z : Result (Unit {0}) Refusal)
     → then_names (verdict a) (then_names (verdict b) (then_names (verdict c) z))
     ≡ then_names (verdict (then_held a (λ x. then_held b (λ u. then_held c (λ l. held (more x d u l)))))) z
 unfolding verdict then_names
@@ -72,21 +71,21 @@ verdict_more (lacks e) b c d z = refl
 module _ (tx nd : List ℕ) where
   -- A tree whose root is node n: where it ends; and its names and those of the k nodes after it are names in a row.
   abbrev TreeNames : ℕ → Got (Tree NameSpan) → Type 0
-  TreeNames n (got t e) =
+  TreeNames n (Ok (t, e)) =
       (e ≡ n + size t) × ((k : ℕ) → names_from tx nd (n + 1) (under t + k) ≡ then_names (verdict (gather tx t)) (names_from tx nd e k))
-  TreeNames n (bad x) = x ≡ BadMessage Layout
+  TreeNames n (Err x) = x ≡ BadMessage Layout
 
   abbrev KidNames : ℕ → Got (Kids NameSpan) → Type 0
-  KidNames m (got ks e) =
+  KidNames m (Ok (ks, e)) =
       (e ≡ m + kid_size ks) × ((k : ℕ) → names_from tx nd m (kid_size ks + k) ≡ then_names (verdict (gather_kids tx ks)) (names_from tx nd e k))
-  KidNames m (bad x) = x ≡ BadMessage Layout
+  KidNames m (Err x) = x ≡ BadMessage Layout
 
-  no_kids : (m : ℕ) → KidNames m (got none m)
+  no_kids : (m : ℕ) → KidNames m (Ok (none, m))
   unfolding kid_size gather_kids verdict then_names
   no_kids m = (omega arith, λ k. rw zero-add)
 
-  one_kid : (m e f : ℕ) (t : Tree NameSpan) (ks : Kids NameSpan) → TreeNames m (got t e) → KidNames e (got ks f)
-      → KidNames m (got (more (cell nd m 1, cell nd m 2) (cell nd m 3) t ks) f)
+  one_kid : (m e f : ℕ) (t : Tree NameSpan) (ks : Kids NameSpan) → TreeNames m (Ok (t, e)) → KidNames e (Ok (ks, f))
+      → KidNames m (Ok ((more (cell nd m 1, cell nd m 2) (cell nd m 3) t ks), f))
   unfolding kid_size gather_kids names_from
   one_kid m e f t ks p q =
       let u = size_under t in
@@ -101,13 +100,13 @@ module _ (tx nd : List ℕ) where
 
   module _ (r : ℕ → ℕ → Got (Tree NameSpan)) (h : (n parent : ℕ) → TreeNames n (r n parent)) where
     kids_then : (tag m k : ℕ) → ((e : ℕ) → KidNames e (kids_at r nd tag k e)) → (D : Got (Tree NameSpan)) → TreeNames m D
-        → KidNames m (then D (λ t e. then (kids_at r nd tag k e) (λ ks f. got (more (cell nd m 1, cell nd m 2) (cell nd m 3) t ks) f)))
-    kids_then tag m k rest (bad x) p = p
-    kids_then tag m k rest (got t e) p = go (kids_at r nd tag k e) (rest e)
+        → KidNames m (then D (λ t e. then (kids_at r nd tag k e) (λ ks f. Ok ((more (cell nd m 1, cell nd m 2) (cell nd m 3) t ks), f))))
+    kids_then tag m k rest (Err x) p = p
+    kids_then tag m k rest (Ok (t, e)) p = go (kids_at r nd tag k e) (rest e)
       where
-        go : (K : Got (Kids NameSpan)) → KidNames e K → KidNames m (then K (λ ks f. got (more (cell nd m 1, cell nd m 2) (cell nd m 3) t ks) f))
-        go (bad x) q = q
-        go (got ks f) q = one_kid m e f t ks p q
+        go : (K : Got (Kids NameSpan)) → KidNames e K → KidNames m (then K (λ ks f. Ok ((more (cell nd m 1, cell nd m 2) (cell nd m 3) t ks), f)))
+        go (Err x) q = q
+        go (Ok (ks, f)) q = one_kid m e f t ks p q
 
     kid_names : (tag k m : ℕ) → KidNames m (kids_at r nd tag k m)
     unfolding kids_at
@@ -116,12 +115,12 @@ module _ (tx nd : List ℕ) where
 
   closed_names : (n tag end : ℕ) (K : Got (Kids NameSpan)) → KidNames (n + 1) K → TreeNames n (closed_at tag end K)
   unfolding size gather
-  closed_names n tag end (bad x) q = q
-  closed_names n tag end (got ks m) q =
+  closed_names n tag end (Err x) q = q
+  closed_names n tag end (Ok (ks, m)) q =
       let q₀ = q.0 in
       pick_both (TreeNames n) (eqb end m) (omega arith, λ k. rw (verdict_kids tag (gather_kids tx ks)) (q.1 k)) refl
 
-  leaf_names : (n tag p : ℕ) → TreeNames n (got (leaf tag p) (n + 1))
+  leaf_names : (n tag p : ℕ) → TreeNames n (Ok (leaf tag p, n + 1))
   unfolding size gather verdict then_names
   leaf_names n tag p = (refl, λ k. rw zero-add)
 
@@ -137,13 +136,13 @@ module _ (tx nd : List ℕ) where
       refl
 
   -- the only refusal of a table
-  pub table_bad : (d n parent : ℕ) (x : Refusal) → table d nd n parent ≡ bad x → x ≡ BadMessage Layout
+  pub table_bad : (d n parent : ℕ) (x : Refusal) → table d nd n parent ≡ Err x → x ≡ BadMessage Layout
   table_bad d n parent x h = rw h at (table_names d n parent)
 
-  pub table_verdict : (d n parent e : ℕ) (t : Tree NameSpan) → table d nd n parent ≡ got t e → names_from tx nd (n + 1) (e - (n + 1)) ≡ verdict (gather tx t)
+  pub table_verdict : (d n parent e : ℕ) (t : Tree NameSpan) → table d nd n parent ≡ Ok (t, e) → names_from tx nd (n + 1) (e - (n + 1)) ≡ verdict (gather tx t)
   unfolding names_from
   table_verdict d n parent e t h =
-      let p : TreeNames n (got t e) = rw h at (table_names d n parent) in
+      let p : TreeNames n (Ok (t, e)) = rw h at (table_names d n parent) in
       let u = size_under t in
       let p₀ = p.0 in
       let g : e - (n + 1) ≡ under t + 0 = omega arith in

@@ -10,13 +10,14 @@ use lib.ListN.{length, get_or, length-append}
 use lib.Seq.{get_or-append-add}
 use borrow.Author.Tests.{lt-ltb, le-leb, eq-eqb}
 use Rattle.varint.specs.Choice.{pick}
-use Rattle.varint.specs.Formats.{got}
+use Rattle.varint.specs.Got.{got}
 use Rattle.desc.specs.Layout.{NameSpan, width, node_of, nodes_of, kid_nodes}
 use Rattle.desc.specs.Table.{cell, root_name, discriminant_fits, predicate_fits, is_branch, leaf_fits, node_fits, kids_at, table}
 use Rattle.desc.specs.Trees.{Tree, leaf, branch, Kids, none, more, kid_count, size, kid_size}
 use Rattle.desc.specs.WellFormed.{LeafOk, int, string, fact, bytes, BranchOk, record_type, union_type, field, alternative, Fine, FineKids}
 use Rattle.desc.proofs.LayoutLaws.{length_nodes}
 use Rattle.desc.proofs.Tags.{Under, root, below}
+use Rattle.std.specs.Prelude.{Ok}
 
 -- the columns of node n
 pub record Row (nd : List ℕ) (n tag : ℕ) (name : NameSpan) (d p count end : ℕ) : Type 0 where
@@ -113,20 +114,20 @@ leaf_ends {n = n} r = rw (r.count_is, r.end_is) (eq-eqb (n + 1) (n + 1) refl)
 mutual
   unfolding nodes_of size kid_count Fine table kids_at
 
-  tree_rows : (st : Tree NameSpan) (Ok : NameSpan → Type 0) (depth parent : ℕ) (nd pre post : List ℕ) (n : ℕ) (name : NameSpan) (d : ℕ)
-      → Fine Ok depth st → Under parent name d → nd ≡ pre ++ (nodes_of st n name d ++ post) → length pre ≡ n * width
-      → table depth nd n parent ≡ got st (n + size st)
-  tree_rows (leaf tag p) Ok zero parent nd pre post n name d f u is l = absurd f
-  tree_rows (leaf tag p) Ok (suc depth) parent nd pre post n name d f u is l =
+  tree_rows : (st : Tree NameSpan) (Good : NameSpan → Type 0) (depth parent : ℕ) (nd pre post : List ℕ) (n : ℕ) (name : NameSpan) (d : ℕ)
+      → Fine Good depth st → Under parent name d → nd ≡ pre ++ (nodes_of st n name d ++ post) → length pre ≡ n * width
+      → table depth nd n parent ≡ Ok (st, n + size st)
+  tree_rows (leaf tag p) Good zero parent nd pre post n name d f u is l = absurd f
+  tree_rows (leaf tag p) Good (suc depth) parent nd pre post n name d f u is l =
       let r = row_at nd pre post n tag name d p 0 (n + 1) is l in
       rw (node_fits_lem r u (leaf_kind f) (leaf_ends r), branch_is r (leaf_kind f), r.tag_is, r.predicate_is)
-  tree_rows (branch tag ks) Ok zero parent nd pre post n name d f u is l = absurd f
-  tree_rows (branch tag ks) Ok (suc depth) parent nd pre post n name d f u is l =
+  tree_rows (branch tag ks) Good zero parent nd pre post n name d f u is l = absurd f
+  tree_rows (branch tag ks) Good (suc depth) parent nd pre post n name d f u is l =
       let R : List ℕ = node_of tag name.0 name.1 d 0 (kid_count ks) (n + 1 + kid_size ks) in
       let K : List ℕ = kid_nodes ks (n + 1) in
       let r = row_at nd pre (K ++ post) n tag name d 0 (kid_count ks) (n + 1 + kid_size ks) is l in
       let l' : length (pre ++ R) ≡ (n + 1) * width = length-append pre R ∙ omega arith in
-      let k = kids_rows ks Ok depth tag nd (pre ++ R) post (n + 1) f.2 (is ∙ sym (append_assoc pre R (K ++ post))) l' in
+      let k = kids_rows ks Good depth tag nd (pre ++ R) post (n + 1) f.2 (is ∙ sym (append_assoc pre R (K ++ post))) l' in
       let e : n + 1 + kid_size ks ≡ n + suc (kid_size ks) = omega arith in
       rw (
         node_fits_lem r u (branch_kind f.0) refl,
@@ -139,22 +140,22 @@ mutual
         e,
       )
 
-  kids_rows : (ks : Kids NameSpan) (Ok : NameSpan → Type 0) (depth tag : ℕ) (nd pre post : List ℕ) (m : ℕ) → FineKids Ok tag depth ks
-      → nd ≡ pre ++ (kid_nodes ks m ++ post) → length pre ≡ m * width → kids_at (table depth nd) nd tag (kid_count ks) m ≡ got ks (m + kid_size ks)
-  kids_rows none Ok depth tag nd pre post m f is l = ap (got none) (sym (add-zero m))
-  kids_rows (more name d st ks) Ok depth tag nd pre post m f is l =
+  kids_rows : (ks : Kids NameSpan) (Good : NameSpan → Type 0) (depth tag : ℕ) (nd pre post : List ℕ) (m : ℕ) → FineKids Good tag depth ks
+      → nd ≡ pre ++ (kid_nodes ks m ++ post) → length pre ≡ m * width → kids_at (table depth nd) nd tag (kid_count ks) m ≡ Ok (ks, m + kid_size ks)
+  kids_rows none Good depth tag nd pre post m f is l = ap (got none) (sym (add-zero m))
+  kids_rows (more name d st ks) Good depth tag nd pre post m f is l =
       let R : List ℕ = nodes_of st m name d in
       let K : List ℕ = kid_nodes ks (m + size st) in
       let is₁ : nd ≡ pre ++ (R ++ (K ++ post)) = is ∙ ap (λ (x : List ℕ). pre ++ x) (append_assoc R K post) in
-      let t = tree_rows st Ok depth tag nd pre (K ++ post) m name d f.2 (below f.1) is₁ l in
+      let t = tree_rows st Good depth tag nd pre (K ++ post) m name d f.2 (below f.1) is₁ l in
       let c = first_row st nd pre (K ++ post) m name d is₁ l in
       let l' : length (pre ++ R) ≡ (m + size st) * width = length-append pre R ∙ omega (arith, length_nodes st m name d) in
-      let k = kids_rows ks Ok depth tag nd (pre ++ R) post (m + size st) f.3 (is₁ ∙ sym (append_assoc pre R (K ++ post))) l' in
+      let k = kids_rows ks Good depth tag nd (pre ++ R) post (m + size st) f.3 (is₁ ∙ sym (append_assoc pre R (K ++ post))) l' in
       let e : m + size st + kid_size ks ≡ m + (size st + kid_size ks) = omega arith in
       rw (t, k, c.0, c.1, c.2, e)
 
 -- a table that a tree is laid out in is read as that tree
-pub table_rows : (Ok : NameSpan → Type 0) (depth parent : ℕ) (st : Tree NameSpan) (nd pre post : List ℕ) (n : ℕ) (name : NameSpan) (d : ℕ)
-    → Fine Ok depth st → Under parent name d → nd ≡ pre ++ (nodes_of st n name d ++ post) → length pre ≡ n * width
-    → table depth nd n parent ≡ got st (n + size st)
-table_rows Ok depth parent st = tree_rows st Ok depth parent
+pub table_rows : (Good : NameSpan → Type 0) (depth parent : ℕ) (st : Tree NameSpan) (nd pre post : List ℕ) (n : ℕ) (name : NameSpan) (d : ℕ)
+    → Fine Good depth st → Under parent name d → nd ≡ pre ++ (nodes_of st n name d ++ post) → length pre ≡ n * width
+    → table depth nd n parent ≡ Ok (st, n + size st)
+table_rows Good depth parent st = tree_rows st Good depth parent

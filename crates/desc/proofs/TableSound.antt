@@ -10,7 +10,7 @@ use lib.Dec.{eqb}
 use lib.ListN.{length}
 use lib.Seq.{sets}
 use borrow.Author.Tests.{eqb-true}
-use Rattle.varint.specs.Formats.{Got, got, bad}
+use Rattle.varint.specs.Got.{Got}
 use Rattle.varint.proofs.Basics.{pick_cases}
 use Rattle.varint.proofs.StoreLaws.{sets_append}
 use Rattle.desc.specs.Layout.{NameSpan, width, node_of, nodes_of, kid_nodes}
@@ -21,6 +21,7 @@ use Rattle.desc.proofs.GotAs.{GotAs, then_got, got_as}
 use Rattle.desc.proofs.NodeFits.{Fits, fits, name_at, row_same, label_under, leaf_row, leaf_is, branch_is, branch_row}
 use Rattle.desc.proofs.LayoutLaws.{length_nodes}
 use Rattle.desc.proofs.Tags.{Under}
+use Rattle.std.specs.Prelude.{Ok, Err}
 
 -- the tree st is laid out from node n on, and ends before node m
 pub record Laid (depth parent : ℕ) (nd : List ℕ) (n : ℕ) (st : Tree NameSpan) (m : ℕ) : Type 0 where
@@ -108,8 +109,8 @@ branch_laid depth parent nd n m ks f b end o =
 closed_laid : (depth parent : ℕ) (nd : List ℕ) (n : ℕ) → Fits nd n parent → is_branch nd n ≡ true
     → (x : Got (Kids NameSpan)) → GotAs (LaidKids depth (cell nd n 0) nd (cell nd n 5) (n + 1)) x
     → GotAs (Laid (suc depth) parent nd n) (closed_at (cell nd n 0) (cell nd n 6) x)
-closed_laid depth parent nd n f b (bad e) o = tt
-closed_laid depth parent nd n f b (got ks m) o =
+closed_laid depth parent nd n f b (Err e) o = tt
+closed_laid depth parent nd n f b (Ok (ks, m)) o =
     pick_cases (GotAs (Laid (suc depth) parent nd n)) (eqb (cell nd n 6) m)
     (λ e. branch_laid depth parent nd n m ks f b (eqb-true (cell nd n 6) m e) o) (λ _. tt)
 
@@ -127,6 +128,6 @@ table_laid (suc depth) nd n parent =
     (λ _. tt)
 
 -- where a table is read as a tree, that tree is laid out there
-pub table_sound : (depth parent : ℕ) (nd : List ℕ) (n : ℕ) (st : Tree NameSpan) (m : ℕ) → table depth nd n parent ≡ got st m
+pub table_sound : (depth parent : ℕ) (nd : List ℕ) (n : ℕ) (st : Tree NameSpan) (m : ℕ) → table depth nd n parent ≡ Ok (st, m)
     → Laid depth parent nd n st m
 table_sound depth parent nd n st m e = got_as (Laid depth parent nd n) (table depth nd n parent) st m (table_laid depth nd n parent) e

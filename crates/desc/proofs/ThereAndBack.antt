@@ -6,13 +6,12 @@ use Prim.Native.Nat.{ℕ, ◌-◌, ◌*◌, ◌≤◌}
 use native.Mathlib.Nat.{zero-add}
 use lib.ListN.{length, replicate}
 use borrow.Author.Tests.{le-ltb}
-use Rattle.varint.specs.Formats.{got}
+use Rattle.varint.specs.Got.{got}
 use Rattle.varint.specs.Gathering.{held}
 use Rattle.varint.specs.Outs.{send}
 use Rattle.varint.specs.RoundTrips.{TextOk}
 use Rattle.varint.specs.Stores.{filled}
 use Rattle.varint.proofs.StoreLaws.{filled_fits}
-use Rattle.desc.specs.declared.DescAnswer.TheVariants.{Accepted}
 use Rattle.desc.specs.Decoding.{settled_desc, decode_desc}
 use Rattle.desc.specs.Encoding.{held_in, sent_desc, encode_desc}
 use Rattle.desc.specs.Layout.{width, texts, placed, nodes_of}
@@ -26,6 +25,7 @@ use Rattle.desc.proofs.LayoutLaws.{size_placed, length_nodes}
 use Rattle.desc.proofs.ReadPrint.{read_print}
 use Rattle.desc.proofs.TableRows.{table_rows}
 use Rattle.desc.proofs.Tags.{root}
+use Rattle.std.specs.Prelude.{Ok}
 
 -- the nodes of a tree whose texts are joined from place 0 on
 abbrev pub layout : Tree (List ℕ) → List ℕ
@@ -37,16 +37,16 @@ length_layout tr = length_nodes (placed tr 0) 0 (0, 0) 0 ∙ ap (λ (k : ℕ). k
 module _ (limit : ℕ) (tr : Tree (List ℕ)) (f : Fine TextOk limit tr) where
   -- the bytes of a tree, whatever follows them, are decoded as that tree
   pub decode_print : (max : ℕ) (rest tx rs nd : List ℕ) → length (print tr ++ rest) ≤ max
-      → decode_desc max limit (print tr ++ rest) tx rs nd ≡ settled_desc (got tr (length (print tr))) tx rs nd
+      → decode_desc max limit (print tr ++ rest) tx rs nd ≡ settled_desc (Ok (tr, (length (print tr)))) tx rs nd
   unfolding decode_desc
   decode_print max rest tx rs nd h =
-      let e : desc true limit limit (print tr ++ rest) 0 ≡ got tr (length (print tr)) =
+      let e : desc true limit limit (print tr ++ rest) 0 ≡ Ok (tr, (length (print tr))) =
       read_print limit limit tr f [] rest ∙ ap (got tr) (zero-add (length (print tr))) in
       rw (le-ltb max (length (print tr ++ rest)) h, e)
 
   -- so are they alone
   pub decode_whole : (max : ℕ) (tx rs nd : List ℕ) → length (print tr) ≤ max
-      → decode_desc max limit (print tr) tx rs nd ≡ settled_desc (got tr (length (print tr))) tx rs nd
+      → decode_desc max limit (print tr) tx rs nd ≡ settled_desc (Ok (tr, (length (print tr)))) tx rs nd
   decode_whole max tx rs nd h =
       let k : length (print tr ++ []) ≤ max = rw append-nil h in
       ap (λ (s : List ℕ). decode_desc max limit s tx rs nd) (sym (append-nil (print tr))) ∙ decode_print max [] tx rs nd k
@@ -54,7 +54,7 @@ module _ (limit : ℕ) (tr : Tree (List ℕ)) (f : Fine TextOk limit tr) where
   -- A descriptor that was encoded is decoded to its layout, where the buffers suffice.
   pub decode_encoded : (max : ℕ) (tx rs nd : List ℕ) → length (print tr) ≤ max → length (texts tr) ≤ length tx → size tr * width ≤ length nd
       → decode_desc max limit (print tr) tx rs nd
-      ≡ record { answer = Accepted (length (print tr)); text = filled tx (texts tr); rows = filled rs []; nodes = filled nd (layout tr) }
+      ≡ record { answer = Ok (length (print tr)); text = filled tx (texts tr); rows = filled rs []; nodes = filled nd (layout tr) }
   unfolding settled_desc
   decode_encoded max tx rs nd h t n =
       decode_whole max tx rs nd h

@@ -10,17 +10,14 @@ use lib.Dec.{ltb}
 use lib.ListN.{length, take, drop, replicate}
 use lib.Seq.{take-append_seam}
 use borrow.Author.Tests.{ltb-false}
-use Rattle.varint.specs.Formats.{Got, got, bad}
+use Rattle.varint.specs.Got.{Got}
 use Rattle.varint.specs.Gathering.{Held, held, lacks}
 use Rattle.varint.specs.Outs.{Sent, send, wrote}
 use Rattle.varint.specs.RoundTrips.{Stands}
 use Rattle.varint.specs.Stores.{part, filled}
-use Rattle.varint.specs.declared.Written.{Written}
-use Rattle.varint.specs.declared.Written.TheVariants.{Wrote, Refused as NotWritten}
 use Rattle.varint.specs.declared.error.Refusal.{Refusal}
 use Rattle.varint.proofs.Basics.{pick_cases}
 use Rattle.varint.proofs.StoreLaws.{filled_fits, part_seam}
-use Rattle.desc.specs.declared.DescAnswer.TheVariants.{Accepted, Refused}
 use Rattle.desc.specs.Decoding.{DecodedDesc, settled_desc, decode_desc}
 use Rattle.desc.specs.Encoding.{held_in, sent_desc, encode_desc}
 use Rattle.desc.specs.Layout.{width, texts}
@@ -33,6 +30,7 @@ use Rattle.desc.proofs.FineRead.{desc_fine}
 use Rattle.desc.proofs.GatherFine.{held_fine}
 use Rattle.desc.proofs.OnePrint.{print_read}
 use Rattle.desc.proofs.ThereAndBack.{decode_whole, held_decoded, encode_laid}
+use Rattle.std.specs.Prelude.{Result, Ok, Err}
 
 -- what stands at the start of bytes
 stands_part : (x s : List ℕ) (q : ℕ) → Stands x s 0 q → x ≡ part s 0 q
@@ -41,36 +39,33 @@ stands_part x s q h =
     let n : q ≡ length x = h.next ∙ zero-add (length x) in
     sym (ap (take q) h.bytes ∙ rw n (take-append_seam x (drop (length x) s)))
 
-not_accepted : {X : Type 0} {e : Refusal} {n : ℕ} → Refused e ≡ Accepted n → X
-not_accepted h = let z : ◌≡◌ {A = ℕ} 0 1 = cc in absurd (omega arith)
+-- what was refused was not done
+pub not_wrote : {X : Type 0} {e : Refusal} {n : ℕ} → Err e ≡ Ok n → X
+not_wrote h = let z : ◌≡◌ {A = ℕ} 0 1 = cc in absurd (omega arith)
 
 abbrev Again : ℕ → ℕ → List ℕ → List ℕ → ℕ → DecodedDesc → Type 0
-Again max limit s out used l = l.answer ≡ Accepted used → encode_desc max limit l.text l.nodes out ≡ send max (part s 0 used) out
+Again max limit s out used l = l.answer ≡ Ok used → encode_desc max limit l.text l.nodes out ≡ send max (part s 0 used) out
 
 pub encode_decoded : EncodeDecoded
 unfolding decode_desc settled_desc
 encode_decoded max limit s tx rs nd out used B =
-    pick_cases (Again max limit s out used) (ltb max (length s)) (λ _. not_accepted)
+    pick_cases (Again max limit s out used) (ltb max (length s)) (λ _. not_wrote)
     (λ _. on (desc true limit limit s 0) refl)
   where
     on : (x : Got (Tree (List ℕ))) → desc true limit limit s 0 ≡ x → Again max limit s out used (settled_desc x tx rs nd)
-    on (bad e) i = not_accepted
-    on (got tr q) i =
-        pick_cases (Again max limit s out used) (ltb (length tx) (length (texts tr))) (λ _. not_accepted)
+    on (Err e) i = not_wrote
+    on (Ok (tr, q)) i =
+        pick_cases (Again max limit s out used) (ltb (length tx) (length (texts tr))) (λ _. not_wrote)
         (λ t.
-        pick_cases (Again max limit s out used) (ltb (length nd) (size tr * width)) (λ _. not_accepted)
+        pick_cases (Again max limit s out used) (ltb (length nd) (size tr * width)) (λ _. not_wrote)
         (λ n e.
         let u : q ≡ used = cc in
         let f = desc_fine limit limit s 0 tr q i in
         encode_laid limit tr f max tx nd out (ltb-false (length tx) (length (texts tr)) t) (ltb-false (length nd) (size tr * width) n)
         ∙ ap (λ (x : List ℕ). send max x out) (stands_part (print tr) s q (print_read limit limit s 0 tr q B (omega arith) i) ∙ ap (part s 0) u)))
 
--- what was refused was not written
-pub not_wrote : {X : Type 0} {e : Refusal} {n : ℕ} → NotWritten e ≡ Wrote n → X
-not_wrote h = let z : ◌≡◌ {A = ℕ} 0 1 = cc in absurd (omega arith)
-
 abbrev Written-is : ℕ → ℕ → List ℕ → List ℕ → ℕ → Sent → Type 0
-Written-is max limit tx nd n r = r.answer ≡ Wrote n → Decodes max limit tx nd (part r.out 0 n)
+Written-is max limit tx nd n r = r.answer ≡ Ok n → Decodes max limit tx nd (part r.out 0 n)
 
 pub decode_written : DecodeWritten
 unfolding encode_desc sent_desc send wrote
@@ -81,7 +76,7 @@ decode_written max limit tx nd out n a b = on (held_in (table limit nd 0 0) tx) 
     on (held tr) i =
         pick_cases (Written-is max limit tx nd n) (ltb max (length (print tr))) (λ _. not_wrote)
         (λ h.
-        pick_cases (λ (w : Written). w ≡ Wrote n → Decodes max limit tx nd (part (filled out (print tr)) 0 n)) (ltb (length out) (length (print tr)))
+        pick_cases (λ (w : Result ℕ Refusal). w ≡ Ok n → Decodes max limit tx nd (part (filled out (print tr)) 0 n)) (ltb (length out) (length (print tr)))
         (λ _. not_wrote)
         (λ k e.
         let most = ltb-false max (length (print tr)) h in

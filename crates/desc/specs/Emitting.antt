@@ -1,19 +1,17 @@
 -- Writing a node table as bytes from a place of a buffer on, its size, and its names: what a writer of messages that hold descriptors calls.
-use Rattle.std.specs.Prelude.{Bool, ◌≡◌, refl, List, [], ◌∷◌, ℕ, zero, suc, ◌+◌, eqb, length}
+use Rattle.std.specs.Prelude.{Bool, ◌≡◌, refl, List, [], ◌∷◌, ℕ, zero, suc, ◌+◌, eqb, length, Ok, Err, Result, Some, None, Option}
 use Rattle.std.proofs.lemmas.List.Edits.{sets}
 use Rattle.varint.specs.Choice.{pick}
-use Rattle.varint.specs.Formats.{Got, got, bad}
+use Rattle.varint.specs.Got.{Got}
 use Rattle.varint.specs.Gathering.{Held, held, lacks, name_held}
 use Rattle.varint.specs.Leb128.{put_by, put_u64}
 use Rattle.varint.specs.Outs.{declared}
 use Rattle.varint.specs.Stores.{part}
 use Rattle.desc.specs.declared.write.Emitted.{Emitted}
-use Rattle.desc.specs.declared.write.Emitted.TheVariants.{Done, Wrong}
-use Rattle.desc.specs.declared.write.Names.{Names}
-use Rattle.desc.specs.declared.write.Names.TheVariants.{Good, Refused}
 use Rattle.desc.specs.Layout.{NameSpan, start_at, len_at}
 use Rattle.desc.specs.Table.{cell, root_name, discriminant_fits, predicate_fits, is_branch, leaf_fits, node_fits, kids_at, table}
 use Rattle.desc.specs.Trees.{Tree, leaf, branch, Kids, none, more, kid_count}
+use Rattle.varint.specs.declared.error.Refusal.{Refusal}
 
 -- A buffer, and the place where the next byte goes. What is stored past the buffer's end is lost, and a place over 2^64−1 is kept as 2^64−1,
 -- which no buffer reaches.
@@ -48,14 +46,18 @@ unfoldable mutual
   put_kids tx tag none s = s
   put_kids tx tag (more name d t ks) s = put_kids tx tag ks (put_tree tx t (put_label tx tag name d s))
 
+-- the node after the last one written, and the place after the last byte
+abbrev pub emitted_to : ℕ → ℕ → Emitted
+emitted_to next place = record { next = next; place = place }
+
 -- A writer that tests the table first, and writes nothing of one that is not laid out as one.
 pub record Put : Type 0 where
-  pub answer : Emitted
+  pub answer : Option Emitted
   pub out : List ℕ
 
 unfoldable pub put_desc : List ℕ → Got (Tree NameSpan) → Pen → Put
-put_desc tx (got tr next) s = record { answer = Done next (put_tree tx tr s).place; out = (put_tree tx tr s).out }
-put_desc tx (bad e) s = record { answer = Wrong; out = s.out }
+put_desc tx (Ok (tr, next)) s = record { answer = Some (emitted_to next (put_tree tx tr s).place); out = (put_tree tx tr s).out }
+put_desc tx (Err e) s = record { answer = None; out = s.out }
 
 -- How many bytes a tree takes by the lengths that the table says
 
@@ -70,32 +72,32 @@ unfoldable mutual
       length (put_u64 name.1) + (name.1 + (pick (eqb tag 4) (length (put_u64 d)) 0 + (span_size t + kids_span tag ks)))
 
 -- the node after a tree, and its size
-unfoldable pub sized : Got (Tree NameSpan) → Emitted
-sized (got tr next) = Done next (declared (span_size tr))
-sized (bad e) = Wrong
+unfoldable pub sized : Got (Tree NameSpan) → Option Emitted
+sized (Ok (tr, next)) = Some (emitted_to next (declared (span_size tr)))
+sized (Err e) = None
 
 -- Names in the order of their nodes
 
-unfoldable pub verdict : {A : Type 0} → Held A → Names
-verdict (held a) = Good
-verdict (lacks e) = Refused e
+unfoldable pub verdict : {A : Type 0} → Held A → Result (Unit {0}) Refusal
+verdict (held a) = Ok tt
+verdict (lacks e) = Err e
 
-unfoldable pub then_names : Names → Names → Names
-then_names Good next = next
-then_names (Refused e) next = Refused e
+unfoldable pub then_names : Result (Unit {0}) Refusal → (Result (Unit {0}) Refusal) → Result (Unit {0}) Refusal
+then_names (Ok _) next = next
+then_names (Err e) next = Err e
 
 -- the names of k nodes from node m on
-unfoldable pub names_from : List ℕ → List ℕ → ℕ → ℕ → Names
-names_from tx nd m zero = Good
+unfoldable pub names_from : List ℕ → List ℕ → ℕ → ℕ → Result (Unit {0}) Refusal
+names_from tx nd m zero = Ok tt
 names_from tx nd m (suc k) = then_names (verdict (name_held tx (cell nd m start_at) (cell nd m len_at))) (names_from tx nd (m + 1) k)
 
 -- a record with one field "a", an int, into a buffer that is two bytes short of it
 example_put : put_desc (0x61 ∷ []) (table 2 (3 ∷ 0 ∷ 0 ∷ 0 ∷ 0 ∷ 1 ∷ 2 ∷ 0 ∷ 0 ∷ 1 ∷ 0 ∷ 0 ∷ 0 ∷ 2 ∷ []) 0 0) (record { out = 9 ∷ 9 ∷ 9 ∷ 9 ∷ []; place = 1 })
-    ≡ record { answer = Done 2 6; out = 9 ∷ 3 ∷ 1 ∷ 1 ∷ [] }
+    ≡ record { answer = Some (emitted_to 2 6); out = 9 ∷ 3 ∷ 1 ∷ 1 ∷ [] }
 unfolding put_desc table node_fits root_name discriminant_fits predicate_fits is_branch leaf_fits kids_at put_tree kid_count put_label put_name put_where put_number put_bytes put_u64 put_by part
 example_put = refl
 
 -- it takes five bytes
-example_sized : sized (table 2 (3 ∷ 0 ∷ 0 ∷ 0 ∷ 0 ∷ 1 ∷ 2 ∷ 0 ∷ 0 ∷ 1 ∷ 0 ∷ 0 ∷ 0 ∷ 2 ∷ []) 0 0) ≡ Done 2 5
+example_sized : sized (table 2 (3 ∷ 0 ∷ 0 ∷ 0 ∷ 0 ∷ 1 ∷ 2 ∷ 0 ∷ 0 ∷ 1 ∷ 0 ∷ 0 ∷ 0 ∷ 2 ∷ []) 0 0) ≡ Some (emitted_to 2 5)
 unfolding sized span_size table node_fits root_name discriminant_fits predicate_fits is_branch leaf_fits kids_at kid_count put_u64 put_by
 example_sized = refl

@@ -1,8 +1,8 @@
 -- Reading a node table back: "19(3) nodes .. not laid out as above (names of fields and alternatives aside), a tag over 5, a discriminant or
 -- predicate over 32 bits, depth over 64, or nodes ending before the message does".
-use Rattle.std.specs.Prelude.{Bool, true, ◌&&◌, ◌||◌, ◌≡◌, refl, List, [], ◌∷◌, ℕ, zero, suc, ◌+◌, ◌*◌, ◌/◌, ltb, leb, eqb, length, get_or}
+use Rattle.std.specs.Prelude.{Bool, true, ◌&&◌, ◌||◌, ◌≡◌, refl, List, [], ◌∷◌, ℕ, zero, suc, ◌+◌, ◌*◌, ◌/◌, ltb, leb, eqb, length, get_or, Ok, Err}
 use Rattle.varint.specs.Choice.{pick}
-use Rattle.varint.specs.Formats.{Got, got, bad, then}
+use Rattle.varint.specs.Got.{Got, then}
 use Rattle.varint.specs.Gathering.{Held, held, then_held, name_held}
 use Rattle.varint.specs.declared.error.Fault.TheVariants.{Layout}
 use Rattle.varint.specs.declared.error.Refusal.TheVariants.{BadMessage}
@@ -41,23 +41,23 @@ node_fits nd n parent =
 
 -- k children of a type with this tag, the first of which is node m, where `r` reads a tree at a node below a parent
 unfoldable pub kids_at : (ℕ → ℕ → Got (Tree NameSpan)) → List ℕ → ℕ → ℕ → ℕ → Got (Kids NameSpan)
-kids_at r nd tag zero m = got none m
+kids_at r nd tag zero m = Ok (none, m)
 kids_at r nd tag (suc k) m =
-    then (r m tag) (λ t e. then (kids_at r nd tag k e) (λ ks f. got (more (cell nd m start_at, cell nd m len_at) (cell nd m discriminant_at) t ks) f))
+    then (r m tag) (λ t e. then (kids_at r nd tag k e) (λ ks f. Ok ((more (cell nd m start_at, cell nd m len_at) (cell nd m discriminant_at) t ks), f)))
 
 abbrev pub closed_at : ℕ → ℕ → Got (Kids NameSpan) → Got (Tree NameSpan)
-closed_at tag end (got ks m) = pick (eqb end m) (got (branch tag ks) m) (bad (BadMessage Layout))
-closed_at tag end (bad e) = bad e
+closed_at tag end (Ok (ks, m)) = pick (eqb end m) (Ok (branch tag ks, m)) (Err (BadMessage Layout))
+closed_at tag end (Err e) = Err e
 
 -- The tree at node n below a parent with this tag, where `depth` more levels may nest; and the node after it.
 unfoldable pub table : ℕ → List ℕ → ℕ → ℕ → Got (Tree NameSpan)
-table zero nd n parent = bad (BadMessage Layout)
+table zero nd n parent = Err (BadMessage Layout)
 table (suc depth) nd n parent =
     pick (node_fits nd n parent)
     (pick (is_branch nd n)
     (closed_at (cell nd n tag_at) (cell nd n end_at) (kids_at (table depth nd) nd (cell nd n tag_at) (cell nd n count_at) (n + 1)))
-    (got (leaf (cell nd n tag_at) (cell nd n predicate_at)) (n + 1)))
-    (bad (BadMessage Layout))
+    (Ok ((leaf (cell nd n tag_at) (cell nd n predicate_at)), n + 1)))
+    (Err (BadMessage Layout))
 
 unfoldable mutual
   -- the tree with its names taken out of the text, in reading order
@@ -71,16 +71,16 @@ unfoldable mutual
       then_held (name_held tx name.0 name.1) (λ x. then_held (gather tx t) (λ u. then_held (gather_kids tx ks) (λ l. held (more x d u l))))
 
 -- the table of the sample union, with a gap in its text
-example_table : table 64 (4 ∷ 0 ∷ 0 ∷ 0 ∷ 0 ∷ 1 ∷ 2 ∷ 5 ∷ 3 ∷ 1 ∷ 9 ∷ 0 ∷ 0 ∷ 2 ∷ []) 0 0 ≡ got (branch 4 (more (3, 1) 9 (leaf 5 0) none)) 2
+example_table : table 64 (4 ∷ 0 ∷ 0 ∷ 0 ∷ 0 ∷ 1 ∷ 2 ∷ 5 ∷ 3 ∷ 1 ∷ 9 ∷ 0 ∷ 0 ∷ 2 ∷ []) 0 0 ≡ Ok ((branch 4 (more (3, 1) 9 (leaf 5 0) none)), 2)
 unfolding table kids_at node_fits root_name discriminant_fits predicate_fits is_branch leaf_fits
 example_table = refl
 
 -- its end is not that of its last child
-example_end : table 64 (4 ∷ 0 ∷ 0 ∷ 0 ∷ 0 ∷ 1 ∷ 3 ∷ 5 ∷ 3 ∷ 1 ∷ 9 ∷ 0 ∷ 0 ∷ 2 ∷ []) 0 0 ≡ bad (BadMessage Layout)
+example_end : table 64 (4 ∷ 0 ∷ 0 ∷ 0 ∷ 0 ∷ 1 ∷ 3 ∷ 5 ∷ 3 ∷ 1 ∷ 9 ∷ 0 ∷ 0 ∷ 2 ∷ []) 0 0 ≡ Err (BadMessage Layout)
 unfolding table kids_at node_fits root_name discriminant_fits predicate_fits is_branch leaf_fits
 example_end = refl
 
 -- a field of a record has no discriminant
-example_field : table 64 (3 ∷ 0 ∷ 0 ∷ 0 ∷ 0 ∷ 1 ∷ 2 ∷ 5 ∷ 3 ∷ 1 ∷ 9 ∷ 0 ∷ 0 ∷ 2 ∷ []) 0 0 ≡ bad (BadMessage Layout)
+example_field : table 64 (3 ∷ 0 ∷ 0 ∷ 0 ∷ 0 ∷ 1 ∷ 2 ∷ 5 ∷ 3 ∷ 1 ∷ 9 ∷ 0 ∷ 0 ∷ 2 ∷ []) 0 0 ≡ Err (BadMessage Layout)
 unfolding table kids_at node_fits root_name discriminant_fits predicate_fits is_branch leaf_fits
 example_field = refl

@@ -1,6 +1,6 @@
 -- "Bytes to try": the lines about descriptors, behind those of the layer below.
-use Rattle.std.specs.Prelude.{true, List, [], ◌∷◌, ◌++◌, ℕ}
-use Rattle.varint.specs.Formats.{Got, got, bad}
+use Rattle.std.specs.Prelude.{true, List, [], ◌∷◌, ◌++◌, ℕ, Ok, Err}
+use Rattle.varint.specs.Got.{Got}
 use Rattle.varint.specs.Tried.{Line, refused_in, varint_lines}
 use Rattle.desc.specs.Layout.{placed, nodes_of}
 use Rattle.desc.specs.Reading.{desc}
@@ -8,8 +8,8 @@ use Rattle.desc.specs.Trees.{Tree}
 
 -- an answer in numbers: a refusal; or 0, the bytes used, and the nodes
 abbrev pub desc_in : Got (Tree (List ℕ)) → List ℕ
-desc_in (got tr next) = 0 ∷ next ∷ nodes_of (placed tr 0) 0 (0, 0) 0
-desc_in (bad r) = refused_in r
+desc_in (Ok (tr, next)) = 0 ∷ next ∷ nodes_of (placed tr 0) 0 (0, 0) 0
+desc_in (Err r) = refused_in r
 
 abbrev pub desc_line : List ℕ → List ℕ → Line
 desc_line bytes answer = record { reader = λ s. desc_in (desc true 64 64 s 0); bytes = bytes; answer = answer }

@@ -9,8 +9,6 @@ pub mod node;
 pub mod write;
 
 ghost use Rattle.std.specs.Prelude.{◌≡◌, true, false, ◌+◌, ◌≤◌, length};
-ghost use Rattle.varint.specs.declared.error.Refusal.TheVariants.{TooSmall};
-ghost use Rattle.desc.specs.declared.DescAnswer.TheVariants.{Refused};
 ghost use Rattle.desc.specs.Decoding.{measured, fill_desc, decode_desc};
 ghost use Rattle.desc.specs.Reading.{desc};
 ghost use Rattle.desc.specs.Inner.Walking.{outcome, Agrees};
@@ -18,7 +16,8 @@ ghost use Rattle.desc.specs.Inner.Walking.{outcome, Agrees};
 use head::{Head, Label, read_head, read_label};
 use node::{WIDTH, store_node};
 use varint::error::{Buffer, Refusal};
-use varint::store::{clear_bytes, clear_numbers, copy_bytes};
+use varint::store::{copy_bytes, fill_from};
+use varint::text::Span;
 
 // How deep descriptors nest, and the longest payload (block.rs).
 pub const MAX_DEPTH: u64 = 64;
@@ -27,27 +26,20 @@ pub const MAX_PAYLOAD: u64 = 67_108_864;
 
 // The places past a descriptor: in the bytes, the text and the nodes.
 #[derive(Clone, Copy)]
-pub enum Walked {
-    Read {
-        next: usize,
-        text: usize,
-        nodes: usize,
-    },
-    Refused(Refusal),
+pub struct Walked {
+    pub next: usize,
+    pub text: usize,
+    pub nodes: usize,
 }
 
-// What was measured: where it ends, how much text and how many nodes it has.
-#[derive(Clone, Copy)]
-struct Measured(usize, usize, usize);
+// What stands before a root: nothing.
+const ROOT: Label = Label {
+    name: Span { start: 0, len: 0 },
+    discriminant: 0,
+};
 
-#[derive(Clone, Copy)]
-pub enum DescAnswer {
-    Accepted { used: usize },
-    Refused(Refusal),
-}
-
-// Reads the descriptor at place `at`, where `depth` more levels may nest, as node n with this name and discriminant; its texts go to text
-// from place t on.
+// Reads the descriptor at place `at`, where `depth` more levels may nest, as node n with this label; its texts go to text from place t on. A buffer and the
+// place in it are lent side by side, here and above: a struct that held the `&mut` would owe in each contract that it keeps it, which is no plainer.
 fn walk(
     s: &[u8],
     at: usize,
@@ -58,102 +50,74 @@ fn walk(
     t: usize,
     nodes: &mut [u64],
     n: usize,
-    start: usize,
-    len: usize,
-    discriminant: u64,
-) -> Walked
+    label: Label,
+) -> Result<Walked, Refusal>
     requires { t + n ≤ at }
-    ensures { Agrees (outcome (desc check limit depth s.now at) text.old t nodes.old n (start, len) discriminant) (length s.now) result text.new nodes.new }
+    ensures { Agrees (outcome (desc check limit depth s.now at) text.old t nodes.old n (label.name.start, label.name.len) label.discriminant) (length s.now) result text.new nodes.new }
 {
     let too_deep = depth == 0;
     if too_deep {
-        return Walked::Refused(Refusal::TooDeep(limit));
+        return Err(Refusal::TooDeep(limit));
     }
-    match read_head(s, at) {
-        Head::Refused(e) => Walked::Refused(e),
-        Head::Leaf {
-            tag,
-            predicate,
-            next,
-        } => {
-            store_node(nodes, n, tag, start, len, discriminant, predicate, 0, n + 1);
-            Walked::Read {
+    let (head, next) = read_head(s, at)?;
+    match head {
+        Head::Leaf { tag, predicate } => {
+            store_node(nodes, n, tag, label, predicate, 0, n + 1);
+            Ok(Walked {
                 next,
                 text: t,
                 nodes: n + 1,
-            }
+            })
         }
-        Head::Branch { tag, count, next } => {
-            let mut i: u64 = 0;
-            let mut p = next;
-            let mut q = t;
-            let mut m = n + 1;
-            while i < count {
-                match read_label(s, tag, p, check) {
-                    Label::Refused(e) => {
-                        return Walked::Refused(e);
-                    }
-                    Label::Named {
-                        start: from,
-                        len: size,
-                        discriminant: d,
-                        next: body,
-                    } => {
-                        copy_bytes(s, from, size, text, q);
-                        match walk(
-                            s,
-                            body,
-                            depth - 1,
-                            limit,
-                            check,
-                            text,
-                            q + size,
-                            nodes,
-                            m,
-                            q,
-                            size,
-                            d,
-                        ) {
-                            Walked::Refused(e) => {
-                                return Walked::Refused(e);
-                            }
-                            Walked::Read {
-                                next: p2,
-                                text: q2,
-                                nodes: m2,
-                            } => {
-                                p = p2;
-                                q = q2;
-                                m = m2;
-                            }
-                        }
-                    }
-                }
-                i += 1;
+        Head::Branch { tag, count } => {
+            let mut past = Walked {
+                next,
+                text: t,
+                nodes: n + 1,
+            };
+            for _ in 0..count {
+                let (found, body) = read_label(s, tag, past.next, check)?;
+                let from = found.name;
+                copy_bytes(s, from.start, from.len, text, past.text);
+                let child = Label {
+                    name: Span {
+                        start: past.text,
+                        len: from.len,
+                    },
+                    discriminant: found.discriminant,
+                };
+                past = walk(
+                    s,
+                    body,
+                    depth - 1,
+                    limit,
+                    check,
+                    text,
+                    past.text + from.len,
+                    nodes,
+                    past.nodes,
+                    child,
+                )?;
             }
-            store_node(nodes, n, tag, start, len, discriminant, 0, count, m);
-            Walked::Read {
-                next: p,
-                text: q,
-                nodes: m,
-            }
+            store_node(nodes, n, tag, label, 0, count, past.nodes);
+            Ok(past)
         }
     }
 }
 
 // Where the descriptor at place `at` ends, and how much text and how many nodes it has.
-fn measure_by(s: &[u8], at: usize, limit: u64, check: bool) -> Walked
+fn measure_by(s: &[u8], at: usize, limit: u64, check: bool) -> Result<Walked, Refusal>
     ensures { result ≡ measured (desc check limit limit s.now at) }
 {
     let mut text = [0u8; 1];
     let mut nodes = [0u64; 1];
     walk(
-        s, at, limit, limit, check, &mut text, 0, &mut nodes, 0, 0, 0, 0,
+        s, at, limit, limit, check, &mut text, 0, &mut nodes, 0, ROOT,
     )
 }
 
 // The same for whoever reads a descriptor within other bytes.
-pub fn measure_desc(s: &[u8], at: usize, limit: u64) -> Walked
+pub fn measure_desc(s: &[u8], at: usize, limit: u64) -> Result<Walked, Refusal>
     ensures { result ≡ measured (desc true limit limit s.now at) }
 {
     measure_by(s, at, limit, true)
@@ -169,48 +133,14 @@ pub fn fill_desc(
     t: usize,
     nodes: &mut [u64],
     n: usize,
-) -> Walked
+) -> Result<Walked, Refusal>
     ensures { (result ≡ measured (desc false limit limit s.now at)) × (record { text = text.new; nodes = nodes.new } ≡ fill_desc limit s.now at text.old t nodes.old n) }
 {
-    match measure_by(s, at, limit, false) {
-        Walked::Read {
-            next,
-            text: size,
-            nodes: count,
-        } => {
-            if at < t {
-                return Walked::Read {
-                    next,
-                    text: size,
-                    nodes: count,
-                };
-            }
-            if at - t < n {
-                return Walked::Read {
-                    next,
-                    text: size,
-                    nodes: count,
-                };
-            }
-            walk(s, at, limit, limit, false, text, t, nodes, n, 0, 0, 0);
-            Walked::Read {
-                next,
-                text: size,
-                nodes: count,
-            }
-        }
-        Walked::Refused(e) => Walked::Refused(e),
+    let measured = measure_by(s, at, limit, false)?;
+    if t <= at && n <= at - t {
+        let _ = walk(s, at, limit, limit, false, text, t, nodes, n, ROOT);
     }
-}
-
-// The refusal of a buffer that is lent too small.
-fn too_small(which: Buffer, needed: usize) -> DescAnswer
-    ensures { result ≡ Refused (TooSmall which needed) }
-{
-    DescAnswer::Refused(Refusal::TooSmall {
-        which,
-        needed: needed as u64,
-    })
+    Ok(measured)
 }
 
 // Decodes a descriptor of at most `max` bytes and `limit` levels.
@@ -221,34 +151,33 @@ fn decode_within(
     text: &mut [u8],
     rows: &mut [u64],
     nodes: &mut [u64],
-) -> DescAnswer
+) -> Result<usize, Refusal>
     requires { max ≤ 4294967296 }
     ensures { record { answer = result; text = text.new; rows = rows.new; nodes = nodes.new } ≡ decode_desc max limit payload.now text.old rows.old nodes.old }
 {
     let length = payload.len() as u64;
     if max < length {
-        return DescAnswer::Refused(Refusal::BlockTooLarge {
+        return Err(Refusal::BlockTooLarge {
             declared: length,
             max,
         });
     }
-    let Measured(used, t, m) = match measure_desc(payload, 0, limit) {
-        Walked::Refused(e) => return DescAnswer::Refused(e),
-        Walked::Read { next, text, nodes } => Measured(next, text, nodes),
-    };
+    let measured = measure_desc(payload, 0, limit)?;
+    let used = measured.next;
+    let t = measured.text;
     let short = text.len() < t;
     if short {
-        return too_small(Buffer::Text, t);
+        return Err(Refusal::too_small(Buffer::Text, t));
     }
-    let numbers = m * WIDTH;
+    let numbers = measured.nodes * WIDTH;
     if nodes.len() < numbers {
-        return too_small(Buffer::Nodes, numbers);
+        return Err(Refusal::too_small(Buffer::Nodes, numbers));
     }
-    walk(payload, 0, limit, limit, false, text, 0, nodes, 0, 0, 0, 0);
-    clear_bytes(text, t);
-    clear_numbers(rows, 0);
-    clear_numbers(nodes, numbers);
-    DescAnswer::Accepted { used }
+    let _ = walk(payload, 0, limit, limit, false, text, 0, nodes, 0, ROOT);
+    fill_from(text, t, 0);
+    fill_from(rows, 0, 0);
+    fill_from(nodes, numbers, 0);
+    Ok(used)
 }
 
 // The descriptor at the start of a payload: its texts in text, its nodes in nodes, and zeros behind them; rows are cleared too.
@@ -257,7 +186,7 @@ pub fn decode_desc(
     text: &mut [u8],
     rows: &mut [u64],
     nodes: &mut [u64],
-) -> DescAnswer
+) -> Result<usize, Refusal>
     ensures { record { answer = result; text = text.new; rows = rows.new; nodes = nodes.new } ≡ decode_desc 67108864 64 payload.now text.old rows.old nodes.old }
 {
     decode_within(payload, MAX_PAYLOAD, MAX_DEPTH, text, rows, nodes)

@@ -4,7 +4,8 @@ ghost use Rattle.std.proofs.lemmas.List.Edits.{sets};
 ghost use Rattle.desc.specs.Layout.{width, node_of};
 ghost use Rattle.desc.specs.Table.{cell};
 
-use varint::store::store_number;
+use crate::head::Label;
+use varint::store::store;
 
 // How many numbers a node has, and which of them is which.
 pub const WIDTH: usize = 7;
@@ -28,24 +29,23 @@ pub(crate) fn store_node(
     nodes: &mut [u64],
     n: usize,
     tag: u64,
-    start: usize,
-    len: usize,
-    discriminant: u64,
+    label: Label,
     predicate: u64,
     count: u64,
     end: usize,
 )
-    ensures { nodes.new ≡ sets nodes.old (n * width) (node_of tag start len discriminant predicate count end) }
+    ensures { nodes.new ≡ sets nodes.old (n * width) (node_of tag label.name.start label.name.len label.discriminant predicate count end) }
 {
     if n < nodes.len() {
         let k = n * WIDTH;
-        store_number(nodes, k, tag);
-        store_number(nodes, k + START, start as u64);
-        store_number(nodes, k + LEN, len as u64);
-        store_number(nodes, k + DISCRIMINANT, discriminant);
-        store_number(nodes, k + PREDICATE, predicate);
-        store_number(nodes, k + COUNT, count);
-        store_number(nodes, k + END, end as u64);
+        let name = label.name;
+        store(nodes, k, tag);
+        store(nodes, k + START, name.start as u64);
+        store(nodes, k + LEN, name.len as u64);
+        store(nodes, k + DISCRIMINANT, label.discriminant);
+        store(nodes, k + PREDICATE, predicate);
+        store(nodes, k + COUNT, count);
+        store(nodes, k + END, end as u64);
     }
 }
 

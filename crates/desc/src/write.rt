@@ -3,10 +3,9 @@ ghost use Rattle.std.specs.Prelude.{true, ◌&&◌, ◌||◌, [], ◌≡◌, ◌
 ghost use Rattle.varint.specs.Choice.{pick};
 ghost use Rattle.varint.specs.Gathering.{name_held};
 ghost use Rattle.varint.specs.Outs.{declared};
-ghost use Rattle.desc.specs.declared.write.Emitted.TheVariants.{Done, Wrong};
 ghost use Rattle.desc.specs.Layout.{width, start_at, len_at, discriminant_at};
 ghost use Rattle.desc.specs.Table.{cell, node_fits, table};
-ghost use Rattle.desc.specs.Emitting.{put_number, put_where, put_name, put_label, sized, put_desc, verdict, names_from};
+ghost use Rattle.desc.specs.Emitting.{put_number, put_where, put_name, put_label, emitted_to, sized, put_desc, verdict, names_from};
 ghost use Rattle.desc.specs.Inner.Emission.{nowhere, told, emission};
 ghost use Rattle.desc.specs.Encoding.{encode_desc};
 
@@ -14,29 +13,16 @@ use crate::head::{TAG_BYTES, TAG_FACT, TAG_RECORD, TAG_UNION};
 use crate::node;
 use crate::node::read_cell;
 use varint::error::{Buffer, Fault, Refusal};
-use varint::store::{clear_bytes, copy_bytes};
+use varint::store::{copy_bytes, fill_from};
+use varint::text::Span;
 use varint::utf8::is_utf8;
 use varint::{MAX_U32, Written, len_u64, put_u64};
 
-// The node after the last one written, and the place after the last byte; or the table is not laid out as one.
+// The node after the last one written, and the place after the last byte. There is none where the table is not laid out as one.
 #[derive(Clone, Copy)]
-pub enum Emitted {
-    Done { next: usize, place: usize },
-    Wrong,
-}
-
-// Whether names are in the text and are UTF-8.
-#[derive(Clone, Copy)]
-pub enum Names {
-    Good,
-    Refused(Refusal),
-}
-
-// A place of the text: where it starts, and how long it is.
-#[derive(Clone, Copy)]
-struct Span {
-    start: u64,
-    len: u64,
+pub struct Emitted {
+    pub next: usize,
+    pub place: usize,
 }
 
 // A root's name is 0, 0; a child's is no matter of the layout.
@@ -166,13 +152,13 @@ fn put_two(out: &mut [u8], at: usize, v: u64, wanted: bool, w: u64) -> usize
 }
 
 // A type with parts, whose last part ends before node `next`: its end is to say so.
-fn closed(end: u64, next: usize, place: usize) -> Emitted
-    ensures { result ≡ pick (eqb end next) (Done next place) Wrong }
+fn closed(end: u64, next: usize, place: usize) -> Option<Emitted>
+    ensures { result ≡ pick (eqb end next) (Some (emitted_to next place)) None }
 {
     if end == next as u64 {
-        return Emitted::Done { next, place };
+        return Some(Emitted { next, place });
     }
-    Emitted::Wrong
+    None
 }
 
 // Writes node `n`, which stands below a parent with this tag (0: it is a root), and all below it from place `at` of `out` on, where `depth`
@@ -185,42 +171,34 @@ fn emit(
     depth: u64,
     out: &mut [u8],
     at: usize,
-) -> Emitted
+) -> Option<Emitted>
     ensures { told result out.new ≡ emission text.now (table depth nodes.now n parent) (record { out = out.old; place = at }) }
 {
     if depth == 0 {
-        return Emitted::Wrong;
+        return None;
     }
     if !node_fits(nodes, n, parent) {
-        return Emitted::Wrong;
+        return None;
     }
     let k = n * node::WIDTH;
     let tag = nodes[k + node::TAG];
     if !is_branch(tag) {
         let place = put_two(out, at, tag, tag == TAG_FACT, nodes[k + node::PREDICATE]);
-        return Emitted::Done { next: n + 1, place };
+        return Some(Emitted { next: n + 1, place });
     }
     let count = nodes[k + node::COUNT];
-    let mut a = put_two(out, at, tag, true, count);
-    let mut m = n + 1;
-    let mut i: u64 = 0;
-    while i < count {
-        if nodes.len() / node::WIDTH <= m {
-            return Emitted::Wrong;
+    let mut past = Emitted {
+        next: n + 1,
+        place: put_two(out, at, tag, true, count),
+    };
+    for _ in 0..count {
+        if nodes.len() / node::WIDTH <= past.next {
+            return None;
         }
-        let named = put_label(text, nodes, m, tag, out, a);
-        match emit(text, nodes, m, tag, depth - 1, out, named) {
-            Emitted::Wrong => {
-                return Emitted::Wrong;
-            }
-            Emitted::Done { next, place } => {
-                m = next;
-                a = place;
-            }
-        }
-        i += 1;
+        let named = put_label(text, nodes, past.next, tag, out, past.place);
+        past = emit(text, nodes, past.next, tag, depth - 1, out, named)?;
     }
-    closed(nodes[k + node::END], m, a)
+    closed(nodes[k + node::END], past.next, past.place)
 }
 
 // The place after the varint of `v` that starts at place `at`.
@@ -254,48 +232,40 @@ fn past_label(nodes: &[u64], m: usize, tag: u64, at: usize) -> usize
 
 // What `emit` answers, whatever the text and the buffer are: the test of the layout and the place after the last byte, with nothing stored. A walk of
 // its own, since it only adds up lengths; that of a tag is 1.
-fn gauge(nodes: &[u64], n: usize, parent: u64, depth: u64, at: usize) -> Emitted
+fn gauge(nodes: &[u64], n: usize, parent: u64, depth: u64, at: usize) -> Option<Emitted>
     ensures { told result [] ≡ emission [] (table depth nodes.now n parent) (nowhere at) }
 {
     if depth == 0 {
-        return Emitted::Wrong;
+        return None;
     }
     if !node_fits(nodes, n, parent) {
-        return Emitted::Wrong;
+        return None;
     }
     let k = n * node::WIDTH;
     let tag = nodes[k + node::TAG];
     let past = plus(at, 1);
     if !is_branch(tag) {
         let place = past_where(past, tag == TAG_FACT, nodes[k + node::PREDICATE]);
-        return Emitted::Done { next: n + 1, place };
+        return Some(Emitted { next: n + 1, place });
     }
     let count = nodes[k + node::COUNT];
-    let mut a = past_number(past, count);
-    let mut m = n + 1;
-    let mut i: u64 = 0;
-    while i < count {
-        if nodes.len() / node::WIDTH <= m {
-            return Emitted::Wrong;
+    let mut past = Emitted {
+        next: n + 1,
+        place: past_number(past, count),
+    };
+    for _ in 0..count {
+        if nodes.len() / node::WIDTH <= past.next {
+            return None;
         }
-        let named = past_label(nodes, m, tag, a);
-        match gauge(nodes, m, tag, depth - 1, named) {
-            Emitted::Wrong => {
-                return Emitted::Wrong;
-            }
-            Emitted::Done { next, place } => {
-                m = next;
-                a = place;
-            }
-        }
-        i += 1;
+        let named = past_label(nodes, past.next, tag, past.place);
+        past = gauge(nodes, past.next, tag, depth - 1, named)?;
     }
-    closed(nodes[k + node::END], m, a)
+    closed(nodes[k + node::END], past.next, past.place)
 }
 
 // The node after the tree whose root is node `n`, and how many bytes it takes by the lengths in the table; a size over 2^64−1 is told as
 // 2^64−1.
-pub fn size_desc(nodes: &[u64], n: usize, limit: u64) -> Emitted
+pub fn size_desc(nodes: &[u64], n: usize, limit: u64) -> Option<Emitted>
     ensures { result ≡ sized (table limit nodes.now n 0) }
 {
     gauge(nodes, n, 0, limit, 0)
@@ -310,37 +280,33 @@ pub fn put_desc(
     limit: u64,
     out: &mut [u8],
     at: usize,
-) -> Emitted
+) -> Option<Emitted>
     ensures { record { answer = result; out = out.new } ≡ put_desc text.now (table limit nodes.now n 0) (record { out = out.old; place = at }) }
 {
-    match size_desc(nodes, n, limit) {
-        Emitted::Wrong => Emitted::Wrong,
-        Emitted::Done { next, place } => {
-            if out.len() <= at {
-                return Emitted::Done {
-                    next,
-                    place: plus(at, place),
-                };
-            }
-            emit(text, nodes, n, 0, limit, out, at)
-        }
+    let Emitted { next, place } = size_desc(nodes, n, limit)?;
+    if out.len() <= at {
+        return Some(Emitted {
+            next,
+            place: plus(at, place),
+        });
     }
+    emit(text, nodes, n, 0, limit, out, at)
 }
 
 // Is the name of `len` bytes from place `start` on in the text, and is it UTF-8?
-pub fn check_name(text: &[u8], start: usize, len: usize) -> Names
+pub fn check_name(text: &[u8], start: usize, len: usize) -> Result<(), Refusal>
     ensures { result ≡ verdict (name_held text.now start len) }
 {
     if text.len() < start {
-        return Names::Refused(Refusal::BadMessage(Fault::Texts));
+        return Err(Refusal::BadMessage(Fault::Texts));
     }
     if text.len() - start < len {
-        return Names::Refused(Refusal::BadMessage(Fault::Texts));
+        return Err(Refusal::BadMessage(Fault::Texts));
     }
     if is_utf8(text, start, len) {
-        return Names::Good;
+        return Ok(());
     }
-    Names::Refused(Refusal::BadString)
+    Err(Refusal::BadString)
 }
 
 // Where the name of node `m` stands; a number that the table lacks counts as 0. Of a node that is there whole, no number needs a test of its own.
@@ -349,33 +315,26 @@ fn read_span(nodes: &[u64], m: usize) -> Span
 {
     if nodes.len() / node::WIDTH <= m {
         return Span {
-            start: read_cell(nodes, m, node::START),
-            len: read_cell(nodes, m, node::LEN),
+            start: read_cell(nodes, m, node::START) as usize,
+            len: read_cell(nodes, m, node::LEN) as usize,
         };
     }
     let k = m * node::WIDTH;
     Span {
-        start: nodes[k + node::START],
-        len: nodes[k + node::LEN],
+        start: nodes[k + node::START] as usize,
+        len: nodes[k + node::LEN] as usize,
     }
 }
 
 // The names of the nodes from `from` to before `end`: nodes stand in reading order, and so do their names.
-pub fn check_names(text: &[u8], nodes: &[u64], from: usize, end: usize) -> Names
+pub fn check_names(text: &[u8], nodes: &[u64], from: usize, end: usize) -> Result<(), Refusal>
     ensures { result ≡ names_from text.now nodes.now from (end - from) }
 {
-    let mut m = from;
-    while m < end {
+    for m in from..end {
         let name = read_span(nodes, m);
-        match check_name(text, name.start as usize, name.len as usize) {
-            Names::Refused(r) => {
-                return Names::Refused(r);
-            }
-            Names::Good => {}
-        }
-        m += 1;
+        check_name(text, name.start, name.len)?;
     }
-    Names::Good
+    Ok(())
 }
 
 // A length of 2^64−1 may stand for a greater one, and is over any `max` there is.
@@ -383,27 +342,22 @@ fn encode_within(text: &[u8], nodes: &[u64], max: u64, limit: u64, out: &mut [u8
     requires { max ≤ 4294967296 }
     ensures { record { answer = result; out = out.new } ≡ encode_desc max limit text.now nodes.now out.old }
 {
-    let Emitted::Done { next, place } = size_desc(nodes, 0, limit) else {
-        return Written::Refused(Refusal::BadMessage(Fault::Layout));
+    let Some(Emitted { next, place }) = size_desc(nodes, 0, limit) else {
+        return Err(Refusal::BadMessage(Fault::Layout));
     };
-    if let Names::Refused(e) = check_names(text, nodes, 1, next) {
-        return Written::Refused(e);
-    }
+    check_names(text, nodes, 1, next)?;
     if max < place as u64 {
-        return Written::Refused(Refusal::BlockTooLarge {
+        return Err(Refusal::BlockTooLarge {
             declared: place as u64,
             max,
         });
     }
     if out.len() < place {
-        return Written::Refused(Refusal::TooSmall {
-            which: Buffer::Out,
-            needed: place as u64,
-        });
+        return Err(Refusal::too_small(Buffer::Out, place));
     }
-    emit(text, nodes, 0, 0, limit, out, 0);
-    clear_bytes(out, place);
-    Written::Wrote { len: place }
+    let _ = emit(text, nodes, 0, 0, limit, out, 0);
+    fill_from(out, place, 0);
+    Ok(place)
 }
 
 // Writes the descriptor that a node table and its texts make, and zeros after it; or a refusal, and nothing is written.

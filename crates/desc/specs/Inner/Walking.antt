@@ -1,10 +1,9 @@
 -- What a walk over a descriptor leaves of the two buffers that it is lent: the statement of the recursive reader.
-use Rattle.std.specs.Prelude.{◌≡◌, List, ℕ, ◌+◌, ◌≤◌, length}
-use Rattle.varint.specs.Formats.{Got, got, bad}
+use Rattle.std.specs.Prelude.{◌≡◌, List, ℕ, ◌+◌, ◌≤◌, length, Ok, Err, Result}
+use Rattle.varint.specs.Got.{Got}
 use Rattle.varint.specs.declared.error.Refusal.{Refusal}
 use Rattle.desc.specs.declared.Walked.{Walked}
-use Rattle.desc.specs.declared.Walked.TheVariants.{Read, Refused as NotRead}
-use Rattle.desc.specs.Decoding.{Stored, stored_as}
+use Rattle.desc.specs.Decoding.{Stored, stored_as, walked_to}
 use Rattle.desc.specs.Layout.{NameSpan, texts}
 use Rattle.desc.specs.Trees.{Tree, size}
 
@@ -15,11 +14,11 @@ pub data Outcome : Type 0 where
 
 -- what reading a descriptor as node n leaves of the buffers tx and nd
 unfoldable pub outcome : Got (Tree (List ℕ)) → (tx : List ℕ) (t : ℕ) (nd : List ℕ) (n : ℕ) (name : NameSpan) (d : ℕ) → Outcome
-outcome (bad e) tx t nd n name d = refused e
-outcome (got tr next) tx t nd n name d = done next (t + length (texts tr)) (n + size tr) 0 (stored_as tr tx t nd n name d)
+outcome (Err e) tx t nd n name d = refused e
+outcome (Ok (tr, next)) tx t nd n name d = done next (t + length (texts tr)) (n + size tr) 0 (stored_as tr tx t nd n name d)
 
 -- What a function answered and left agrees with an outcome, and the places are in bounds: each byte of text and each node cost a byte. Of
 -- the buffers after a refusal nothing is said.
-unfoldable pub Agrees : Outcome → ℕ → Walked → List ℕ → List ℕ → Type 0
-Agrees (refused e) end r tx nd = r ≡ NotRead e
-Agrees (done next t m c st) end r tx nd = (r ≡ Read next t m) × (tx ≡ st.text) × (nd ≡ st.nodes) × (t + m ≤ next) × (next ≤ end)
+unfoldable pub Agrees : Outcome → ℕ → Result Walked Refusal → List ℕ → List ℕ → Type 0
+Agrees (refused e) end r tx nd = r ≡ Err e
+Agrees (done next t m c st) end r tx nd = (r ≡ Ok (walked_to next t m)) × (tx ≡ st.text) × (nd ≡ st.nodes) × (t + m ≤ next) × (next ≤ end)

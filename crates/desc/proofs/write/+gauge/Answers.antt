@@ -1,6 +1,6 @@
 use mathlib.Core.Path.{refl, ap, ◌∙◌}
 use mathlib.Core.List.{[]}
-use Prim.Native.Nat.{◌-◌, ◌+◌, ◌*◌}
+use Prim.Native.Nat.{◌-◌}
 use native.Mathlib.Omega.{arith}
 use native.Mathlib.Nat.{sub-zero}
 use lib.Dec.{eqb}
@@ -60,32 +60,30 @@ offset_bounds-nodes-k-2 t c = omega (arith, fits_inside c.args.nodes.now c.args.
 pub bounds-nodes-k-2 : goal.bounds-nodes-k-2
 bounds-nodes-k-2 t c = omega (arith, fits_inside c.args.nodes.now c.args.n c.args.parent c.node_fits.ensures c.if-not-node_fits.false, c.well_formed.0.1)
 
-pub overflow_add-m : goal.overflow_add-m
-overflow_add-m t c = omega (arith, fits_inside c.args.nodes.now c.args.n c.args.parent c.node_fits.ensures c.if-not-node_fits.false, c.well_formed.0.1)
+pub overflow_add-past : goal.overflow_add-past
+overflow_add-past t c = omega (arith, fits_inside c.args.nodes.now c.args.n c.args.parent c.node_fits.ensures c.if-not-node_fits.false, c.well_formed.0.1)
 
-pub loop-i-init : goal.loop-i-init
-loop-i-init t c = (omega arith, rw sub-zero refl)
+pub loop-init : goal.loop-init
+loop-init t c = rw sub-zero refl
 
-pub returns-then-nodes-m : goal.returns-then-nodes-m
-returns-then-nodes-m t c =
+pub returns-then-nodes-past : goal.returns-then-nodes-past
+returns-then-nodes-past t c =
     let a = c.args in
-    let l = c.loop-i in
-    emit_stopped [] a.nodes.now a.depth a.n a.parent (nowhere a.at) [] _ _ (node_branch a.nodes.now a.depth a.n a.parent c.if-depth-eq0.false c.node_fits.ensures c.if-not-node_fits.false c.is_branch.ensures c.if-not-is_branch.false) _ (l.invariant.1 ∙ turn_outside (a.depth - 1) [] a.nodes.now _ _ l.i l.m (nowhere l.a) c.loop-i-test.true c.if-nodes-m.true)
+    let l = c.loop in
+    emit_stopped [] a.nodes.now a.depth a.n a.parent (nowhere a.at) [] _ _ (node_branch a.nodes.now a.depth a.n a.parent c.if-depth-eq0.false c.node_fits.ensures c.if-not-node_fits.false c.is_branch.ensures c.if-not-is_branch.false) _ (l.invariant ∙ turn_outside (a.depth - 1) [] a.nodes.now _ _ l.counter l.past.next (nowhere l.past.place) c.loop-test.true c.if-nodes-past.true)
 
-pub returns-in-Wrong : goal.returns-in-Wrong
-returns-in-Wrong t c =
+pub returns-in_err-past : goal.returns-in_err-past
+returns-in_err-past t c =
     let a = c.args in
-    let l = c.loop-i in
-    emit_stopped [] a.nodes.now a.depth a.n a.parent (nowhere a.at) [] _ _ (node_branch a.nodes.now a.depth a.n a.parent c.if-depth-eq0.false c.node_fits.ensures c.if-not-node_fits.false c.is_branch.ensures c.if-not-is_branch.false) _ (l.invariant.1 ∙ turn_wrong (table (a.depth - 1) a.nodes.now) [] a.nodes.now _ _ l.i l.m (nowhere l.a) _ _ [] c.loop-i-test.true c.past_label-named.ensures c.gauge.ensures c.in-Wrong.is)
+    let l = c.loop in
+    rw c.from_residual.ensures
+    (emit_stopped [] a.nodes.now a.depth a.n a.parent (nowhere a.at) [] _ _ (node_branch a.nodes.now a.depth a.n a.parent c.if-depth-eq0.false c.node_fits.ensures c.if-not-node_fits.false c.is_branch.ensures c.if-not-is_branch.false) _ (l.invariant ∙ turn_wrong (table (a.depth - 1) a.nodes.now) [] a.nodes.now _ _ l.counter l.past.next (nowhere l.past.place) _ _ [] c.loop-test.true c.past_label-named.ensures c.gauge.ensures c.in_err-past.was))
 
-pub overflow_add-i : goal.overflow_add-i
-overflow_add-i t c = omega (arith, c.type_inv.nodes (c.args.n * 7 + 5))
-
-pub loop-i-preserved : goal.loop-i-preserved
-loop-i-preserved t c =
+pub loop-preserved : goal.loop-preserved
+loop-preserved t c =
     let a = c.args in
-    let l = c.loop-i in
-    (omega arith, l.invariant.1 ∙ turn_done (table (a.depth - 1) a.nodes.now) [] a.nodes.now _ _ l.i l.m (nowhere l.a) _ _ [] c.loop-i-test.true c.past_label-named.ensures c.gauge.ensures _ _ c.in-Done.is)
+    let l = c.loop in
+    l.invariant ∙ turn_done (table (a.depth - 1) a.nodes.now) [] a.nodes.now _ _ l.counter l.past.next (nowhere l.past.place) _ _ [] c.loop-test.true c.past_label-named.ensures c.gauge.ensures _ _ c.in_ok-past.was
 
 pub overflow_add-k-2 : goal.overflow_add-k-2
 overflow_add-k-2 t c = omega (arith, fits_inside c.args.nodes.now c.args.n c.args.parent c.node_fits.ensures c.if-not-node_fits.false, c.well_formed.0.1)
@@ -100,5 +98,5 @@ pub returns : goal.returns
 unfolding put_where
 returns t c =
     let a = c.args in
-    let l = c.loop-i in
-    emit_closed [] a.nodes.now a.depth a.n a.parent (nowhere a.at) [] _ _ (node_branch a.nodes.now a.depth a.n a.parent c.if-depth-eq0.false c.node_fits.ensures c.if-not-node_fits.false c.is_branch.ensures c.if-not-is_branch.false) _ l.i l.m l.a c.loop-i-test.false l.invariant.1 _ (c.past_number-a.ensures ∙ ap (put_number (cell a.nodes.now a.n 5)) (tag_gauged a.at _ a.nodes.now a.n a.parent c.node_fits.ensures c.if-not-node_fits.false c.plus-past.ensures)) c.closed.ensures
+    let l = c.loop in
+    emit_closed [] a.nodes.now a.depth a.n a.parent (nowhere a.at) [] _ _ (node_branch a.nodes.now a.depth a.n a.parent c.if-depth-eq0.false c.node_fits.ensures c.if-not-node_fits.false c.is_branch.ensures c.if-not-is_branch.false) _ l.counter l.past.next l.past.place c.loop-test.false l.invariant _ (c.past_number.ensures ∙ ap (put_number (cell a.nodes.now a.n 5)) (tag_gauged a.at _ a.nodes.now a.n a.parent c.node_fits.ensures c.if-not-node_fits.false c.plus-past.ensures)) c.closed.ensures

@@ -5,6 +5,3 @@ use Rattle.desc.proofs.write.check_names.Given as goal
 
 abbrev pub invariant-loop-m : goal.invariant-loop-m
 invariant-loop-m l = (names_from l.text l.nodes l.from (l.end - l.from) ≡ names_from l.text l.nodes l.m (l.end - l.m))
-
-abbrev pub decreases-loop-m : goal.decreases-loop-m
-decreases-loop-m l = l.end - l.m

@@ -11,10 +11,10 @@ returns-then-out-at c =
     let a = c.args in
     let s : length a.out.now ≤ last = omega arith in
     let f : a.at ≤ last = omega arith in
-    put_past a.text.now _ a.out.now a.at _ s f c.if-out-at.true (sym c.in-Done.is ∙ c.size_desc.ensures) c.plus.ensures
+    put_past a.text.now _ a.out.now a.at _ s f c.if-out-at.true (sym c.in_ok-next.was ∙ c.size_desc.ensures) c.plus.ensures
 
-pub returns-in-Wrong : goal.returns-in-Wrong
-returns-in-Wrong c = put_wrong _ _ _ (sym c.in-Wrong.is ∙ c.size_desc.ensures)
+pub returns-in_err-next : goal.returns-in_err-next
+returns-in_err-next c = rw c.from_residual.ensures (put_wrong _ _ _ (sym c.in_err-next.was ∙ c.size_desc.ensures))
 
-pub returns-else-out-at : goal.returns-else-out-at
-returns-else-out-at c = put_done _ _ _ _ _ (sym c.in-Done.is ∙ c.size_desc.ensures) c.emit.ensures
+pub returns : goal.returns
+returns c = put_done _ _ _ _ _ (sym c.in_ok-next.was ∙ c.size_desc.ensures) c.emit.ensures
