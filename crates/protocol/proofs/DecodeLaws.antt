@@ -9,7 +9,7 @@ use lib.Dec.{ltb, leb, eqb}
 use lib.ListN.{length}
 use lib.Seq.{sets}
 use borrow.Author.Tests.{eqb-true, lt-ltb, le-ltb, le-leb, lt-leb, ne_eqb}
-use Rattle.varint.specs.Formats.{Got, got, bad}
+use Rattle.varint.specs.Got.{Got}
 use Rattle.varint.specs.Stores.{part, clear_from, filled}
 use Rattle.varint.specs.declared.error.Buffer.TheVariants.{Text, Rows, Nodes}
 use Rattle.varint.specs.declared.error.Refusal.{Refusal}
@@ -18,15 +18,14 @@ use Rattle.varint.proofs.Basics.{clash, both}
 use Rattle.varint.proofs.StoreLaws.{part_all, filled_steps}
 use Rattle.protocol.specs.Decoding.{Left, kept, fitted, settled, decode_message}
 use Rattle.protocol.specs.Laying.{Laid}
-use Rattle.protocol.specs.Inner.Loading.{outcome, laid_as, told, bare, Reads, ReadsBare, ReadsEntry}
+use Rattle.protocol.specs.Inner.Loading.{outcome, laid_as, told, bare, Reads, ReadsBare, ReadsEntry, found_with}
 use Rattle.protocol.specs.Said.{Said, opaque, read_entry, read_message, lay}
-use Rattle.protocol.specs.declared.message.Answer.TheVariants.{Accepted}
 use Rattle.protocol.specs.declared.message.Message.{Message}
 use Rattle.protocol.specs.declared.message.Message.TheVariants as Msg
 use Rattle.protocol.specs.declared.read.Found.{Found}
-use Rattle.protocol.specs.declared.read.Found.TheVariants as F
 use Rattle.protocol.proofs.MessageReads.{bare_text}
 use Rattle.protocol.proofs.MessageSkims.{entry_skims}
+use Rattle.std.specs.Prelude.{Ok, Err, Result}
 
 -- What fits in the lent memory
 
@@ -67,7 +66,7 @@ module _ {l : Laid} {t r k : ℕ} (z : Takes l t r k) (tx rs nd : List ℕ) wher
       fitted_all : k ≤ length nd → {tx₁ rs₁ nd₁ tx₂ rs₂ nd₂ : List ℕ}
           → tx₁ ≡ sets tx 0 l.piece.text → rs₁ ≡ sets rs 0 (l.piece.rows 0 0) → nd₁ ≡ sets nd 0 (l.piece.nodes 0 0)
           → tx₂ ≡ clear_from tx₁ t → rs₂ ≡ clear_from rs₁ r → nd₂ ≡ clear_from nd₁ k
-          → record { answer = Accepted l.message; text = tx₂; rows = rs₂; nodes = nd₂ } ≡ fitted l tx rs nd
+          → record { answer = Ok l.message; text = tx₂; rows = rs₂; nodes = nd₂ } ≡ fitted l tx rs nd
       unfolding fitted
       fitted_all c e f g e₂ f₂ g₂ =
           let x = fills tx l.piece.text z.text a e e₂ in
@@ -81,33 +80,33 @@ module _ {l : Laid} {t r k : ℕ} (z : Takes l t r k) (tx rs nd : List ℕ) wher
 record Measured (g : Got Said) (message : Message) (t r k : ℕ) : Type 0 where
   value : Said
   next : ℕ
-  is : g ≡ got value next
+  is : g ≡ Ok (value, next)
   says : message ≡ (lay value).message
   takes : Takes (lay value) t r k
 
-module _ {tx rs nd tx₁ rs₁ nd₁ : List ℕ} {x : Found} where
-  tells : {g : Got Laid} {y : Found} → Reads true g tx rs nd x tx₁ rs₁ nd₁ → x ≡ y → told y tx₁ rs₁ nd₁ ≡ outcome true g tx rs nd
+module _ {tx rs nd tx₁ rs₁ nd₁ : List ℕ} {x : Result Found Refusal} where
+  tells : {g : Got Laid} {y : Result Found Refusal} → Reads true g tx rs nd x tx₁ rs₁ nd₁ → x ≡ y → told y tx₁ rs₁ nd₁ ≡ outcome true g tx rs nd
   tells h i = rw (← i) h.is
 
-  first_refused : (g : Got Said) {e : Refusal} → Reads true (laid_as lay g) tx rs nd x tx₁ rs₁ nd₁ → x ≡ F.Refused e → g ≡ bad e
+  first_refused : (g : Got Said) {e : Refusal} → Reads true (laid_as lay g) tx rs nd x tx₁ rs₁ nd₁ → x ≡ Err e → g ≡ Err e
   unfolding told outcome
-  first_refused (bad r) h i = let e = tells h i in cc (e)
-  first_refused (got m q) h i = let e = tells h i in let z : ◌≡◌ {A = ℕ} 0 1 = cc (e) in absurd (omega arith)
+  first_refused (Err r) h i = let e = tells h i in cc (e)
+  first_refused (Ok (m, q)) h i = let e = tells h i in let z : ◌≡◌ {A = ℕ} 0 1 = cc (e) in absurd (omega arith)
 
-  first_read : (g : Got Said) {message : Message} {t r k : ℕ} → Reads true (laid_as lay g) tx rs nd x tx₁ rs₁ nd₁ → x ≡ F.Read message t r k
+  first_read : (g : Got Said) {message : Message} {t r k : ℕ} → Reads true (laid_as lay g) tx rs nd x tx₁ rs₁ nd₁ → x ≡ Ok (found_with message t r k)
       → Measured g message t r k
   unfolding told outcome
-  first_read (bad r) h i = let e = tells h i in let z : ◌≡◌ {A = ℕ} 0 1 = cc (e) in absurd (omega arith)
-  first_read (got m q) h i =
+  first_read (Err r) h i = let e = tells h i in let z : ◌≡◌ {A = ℕ} 0 1 = cc (e) in absurd (omega arith)
+  first_read (Ok (m, q)) h i =
       let e = tells h i in
       record { value = m; next = q; is = refl; says = cc (e); takes = record { text = cc (e); rows = cc (e); nodes = cc (e) } }
 
 -- the second stores what it reads
-second_read : (l : Laid) (q : ℕ) (tx rs nd : List ℕ) {tx₁ rs₁ nd₁ : List ℕ} (x : Found) → told x tx₁ rs₁ nd₁ ≡ outcome false (got l q) tx rs nd
+second_read : (l : Laid) (q : ℕ) (tx rs nd : List ℕ) {tx₁ rs₁ nd₁ : List ℕ} (x : Result Found Refusal) → told x tx₁ rs₁ nd₁ ≡ outcome false (Ok (l, q)) tx rs nd
     → (tx₁ ≡ sets tx 0 l.piece.text) × (rs₁ ≡ sets rs 0 (l.piece.rows 0 0)) × (nd₁ ≡ sets nd 0 (l.piece.nodes 0 0))
 unfolding told outcome
-second_read l q tx rs nd (F.Read message t r k) e = (cc, cc, cc)
-second_read l q tx rs nd (F.Refused r) e = let z : ◌≡◌ {A = ℕ} 0 1 = cc in absurd (omega arith)
+second_read l q tx rs nd (Ok f) e = (cc, cc, cc)
+second_read l q tx rs nd (Err r) e = let z : ◌≡◌ {A = ℕ} 0 1 = cc in absurd (omega arith)
 
 -- what takes no memory need not be stored
 sets_none : (d x : List ℕ) → length x ≡ 0 → d ≡ sets d 0 x
@@ -121,10 +120,13 @@ all_none t r k h =
     (eqb-true t 0 b.0, eqb-true r 0 b.1, eqb-true k 0 a.1)
 
 -- a message of numbers alone takes none
-bare_takes : (g : Got Laid) {x : Found} {message : Message} {t r k : ℕ} → ReadsBare g x → x ≡ F.Read message t r k → (t ≡ 0) × (r ≡ 0) × (k ≡ 0)
+bare_takes : (g : Got Laid) {x : Result Found Refusal} {message : Message} {t r k : ℕ} → ReadsBare g x → x ≡ Ok (found_with message t r k) → (t ≡ 0) × (r ≡ 0) × (k ≡ 0)
 unfolding bare
-bare_takes (got l q) h i = let e = sym i ∙ h.is in (cc (e), cc (e), cc (e))
-bare_takes (bad r) h i = let e = sym i ∙ h.is in let z : ◌≡◌ {A = ℕ} 0 1 = cc (e) in absurd (omega arith)
+bare_takes (Ok (l, q)) {message = message} {t} {r} {k} h i =
+    let e = sym i ∙ h.is in
+    let f : found_with message t r k ≡ found_with l.message 0 0 0 = cc (e) in
+    (ap (λ (y : Found). y.text) f, ap (λ (y : Found). y.rows) f, ap (λ (y : Found). y.nodes) f)
+bare_takes (Err r) h i = let e = sym i ∙ h.is in let z : ◌≡◌ {A = ℕ} 0 1 = cc (e) in absurd (omega arith)
 
 -- Which entries name a message
 
@@ -150,7 +152,7 @@ module _ (max limit entry : ℕ) (s tx rs nd : List ℕ) where
 
   -- an entry that names no message: its payload is the one text, however long
   module _ (o : (entry ≡ 0) ⊎ (12 < entry)) where
-    opaque_read : read_message true max limit entry s ≡ got (opaque s) (length s)
+    opaque_read : read_message true max limit entry s ≡ Ok (opaque s, length s)
     unfolding read_message read_entry
     opaque_read =
         let f = names_not entry o in
@@ -170,7 +172,7 @@ module _ (max limit entry : ℕ) (s tx rs nd : List ℕ) where
 
     pub decode_opaque : length s ≤ length tx → {tx₁ tx₂ rs₂ nd₂ : List ℕ} → tx₁ ≡ sets tx 0 (part s 0 (length s))
         → tx₂ ≡ clear_from tx₁ (length s) → rs₂ ≡ clear_from rs 0 → nd₂ ≡ clear_from nd 0
-        → Decoded (record { answer = Accepted (Msg.Opaque (record { start = 0; len = length s })); text = tx₂; rows = rs₂; nodes = nd₂ })
+        → Decoded (record { answer = Ok (Msg.Opaque (record { start = 0; len = length s })); text = tx₂; rows = rs₂; nodes = nd₂ })
     unfolding lay
     decode_opaque h e f g i =
         fitted_all opaque_takes tx rs nd h (omega arith) (omega arith) (e ∙ ap (sets tx 0) (part_all s)) refl refl f g i ∙ opaque_fitted
@@ -181,13 +183,13 @@ module _ (max limit entry : ℕ) (s tx rs nd : List ℕ) where
     unfolding decode_message read_message
     settles = rw (le-ltb max (length s) short, and-false (names entry))
 
-    module _ {tx₀ rs₀ nd₀ tx₀' rs₀' nd₀' : List ℕ} {x₁ : Found}
+    module _ {tx₀ rs₀ nd₀ tx₀' rs₀' nd₀' : List ℕ} {x₁ : Result Found Refusal}
         (first : Reads true (laid_as lay (read_entry true limit entry s)) tx₀ rs₀ nd₀ x₁ tx₀' rs₀' nd₀') where
-      pub decode_refused : {e : Refusal} → x₁ ≡ F.Refused e → Decoded (kept e tx rs nd)
+      pub decode_refused : {e : Refusal} → x₁ ≡ Err e → Decoded (kept e tx rs nd)
       unfolding settled
       decode_refused i = rw (← settles, first_refused (read_entry true limit entry s) first i)
 
-      module _ {message : Message} {t r k : ℕ} (i : x₁ ≡ F.Read message t r k) where
+      module _ {message : Message} {t r k : ℕ} (i : x₁ ≡ Ok (found_with message t r k)) where
         read : Measured (read_entry true limit entry s) message t r k
         read = first_read (read_entry true limit entry s) first i
 
@@ -204,10 +206,10 @@ module _ (max limit entry : ℕ) (s tx rs nd : List ℕ) where
         pub decode_short_nodes : t ≤ length tx → r ≤ length rs → length nd < k → Decoded (kept (TooSmall Nodes k) tx rs nd)
         decode_short_nodes a b h = fitted_nodes read.takes tx rs nd a b h ∙ read_fitted
 
-        pub decode_done : t ≤ length tx → r ≤ length rs → k ≤ length nd → {x₂ : Found} {tx₁ rs₁ nd₁ tx₂ rs₂ nd₂ : List ℕ}
+        pub decode_done : t ≤ length tx → r ≤ length rs → k ≤ length nd → {x₂ : Result Found Refusal} {tx₁ rs₁ nd₁ tx₂ rs₂ nd₂ : List ℕ}
             → Reads false (laid_as lay (read_entry false limit entry s)) tx rs nd x₂ tx₁ rs₁ nd₁
             → tx₂ ≡ clear_from tx₁ t → rs₂ ≡ clear_from rs₁ r → nd₂ ≡ clear_from nd₁ k
-            → Decoded (record { answer = Accepted message; text = tx₂; rows = rs₂; nodes = nd₂ })
+            → Decoded (record { answer = Ok message; text = tx₂; rows = rs₂; nodes = nd₂ })
         decode_done a b c {x₂ = x₂} second e f g =
             let m = read.value in
             let q = read.next in
@@ -215,7 +217,7 @@ module _ (max limit entry : ℕ) (s tx rs nd : List ℕ) where
             rw read.says (fitted_all read.takes tx rs nd a b c w.0 w.1 w.2 e f g ∙ read_fitted)
 
         pub decode_none : t ≡ 0 → r ≡ 0 → k ≡ 0 → {tx₂ rs₂ nd₂ : List ℕ} → tx₂ ≡ clear_from tx 0 → rs₂ ≡ clear_from rs 0 → nd₂ ≡ clear_from nd 0
-            → Decoded (record { answer = Accepted message; text = tx₂; rows = rs₂; nodes = nd₂ })
+            → Decoded (record { answer = Ok message; text = tx₂; rows = rs₂; nodes = nd₂ })
         decode_none a b c e f g =
             let l = lay read.value in
             let z = read.takes in
@@ -226,14 +228,14 @@ module _ (max limit entry : ℕ) (s tx rs nd : List ℕ) where
             ∙ read_fitted)
 
     -- a message of numbers alone is read once
-    module _ {x : Found} (h : ReadsEntry entry s x) where
+    module _ {x : Result Found Refusal} (h : ReadsEntry entry s x) where
       once : Reads true (laid_as lay (read_entry true limit entry s)) tx rs nd x tx rs nd
       once = (bare_text true tx (laid_as lay (read_entry true limit entry s)) (h.empty limit) (h.reads limit)).is rs nd
 
-      pub decode_bare_refused : {e : Refusal} → x ≡ F.Refused e → Decoded (kept e tx rs nd)
+      pub decode_bare_refused : {e : Refusal} → x ≡ Err e → Decoded (kept e tx rs nd)
       decode_bare_refused i = decode_refused once i
 
-      pub decode_bare_read : {message : Message} {t r k : ℕ} → x ≡ F.Read message t r k → {tx₂ rs₂ nd₂ : List ℕ}
+      pub decode_bare_read : {message : Message} {t r k : ℕ} → x ≡ Ok (found_with message t r k) → {tx₂ rs₂ nd₂ : List ℕ}
           → tx₂ ≡ clear_from tx 0 → rs₂ ≡ clear_from rs 0 → nd₂ ≡ clear_from nd 0
-          → Decoded (record { answer = Accepted message; text = tx₂; rows = rs₂; nodes = nd₂ })
+          → Decoded (record { answer = Ok message; text = tx₂; rows = rs₂; nodes = nd₂ })
       decode_bare_read i e f g = let z = bare_takes (laid_as lay (read_entry true limit entry s)) (h.reads limit) i in decode_none once i z.0 z.1 z.2 e f g

@@ -1,6 +1,7 @@
 pub mod DecodeLaws
 pub mod DescLoads
 pub mod FieldEnds
+pub mod Knows
 pub mod MessageFields
 pub mod MessageReads
 pub mod MessageSkims

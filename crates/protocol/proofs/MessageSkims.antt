@@ -6,14 +6,14 @@ use Prim.Native.Nat.{ℕ, zero, suc}
 use lib.Dec.{ltb, eqb}
 use lib.ListN.{length, drop}
 use Rattle.varint.specs.Choice.{pick}
-use Rattle.varint.specs.Formats.{Got, got, bad, then, Format, got_text, varint, fixed, ◌⊗◌, named, read_times, counted}
+use Rattle.varint.specs.Got.{Got, then}
+use Rattle.varint.specs.Formats.{Format, got_text, varint, fixed, ◌⊗◌, named, read_times, counted}
 use Rattle.varint.specs.Utf8.{utf8}
 use Rattle.varint.specs.declared.error.Mismatch.TheVariants as M
 use Rattle.varint.specs.declared.error.Refusal.{Refusal}
 use Rattle.varint.specs.declared.error.Refusal.TheVariants.{LengthOutOfRange, UnknownPredicate}
-use Rattle.varint.specs.declared.text.ReadText.{ReadText}
-use Rattle.varint.specs.declared.text.ReadText.TheVariants.{Text, Refused as NoText}
-use Rattle.varint.proofs.FormatParts.{no_got, went}
+use Rattle.varint.proofs.FormatParts.{went}
+use Rattle.varint.proofs.Gots.{no_got}
 use Rattle.varint.proofs.TextLaws.{text_skims}
 use Rattle.desc.specs.Reading.{name_by}
 use Rattle.desc.proofs.SkimLaws.{name_skims, desc_skims}
@@ -30,10 +30,13 @@ use Rattle.protocol.specs.Wholes.{ended, versioned}
 use Rattle.protocol.specs.declared.message.ControlOp.{ControlOp}
 use Rattle.protocol.specs.declared.message.ControlOp.TheVariants.{Create, Finish, Remove}
 use Rattle.protocol.proofs.FieldEnds.{kept}
+use Rattle.std.specs.Prelude.{Ok, Err}
+use Rattle.varint.specs.declared.text.Span.{Span}
+use Rattle.varint.specs.Texts.{span}
 
 -- what x reads, y reads too
 record Same {A : Type 0} (x y : Got A) : Type 0 where
-  same : (a : A) (q : ℕ) → x ≡ got a q → y ≡ got a q
+  same : (a : A) (q : ℕ) → x ≡ Ok (a, q) → y ≡ Ok (a, q)
 
 -- so for a format's two readings: what is read with check is read without
 record Skims {A : Type 0} (f : Bool → Format A) : Type 0 where
@@ -69,18 +72,18 @@ module _ {A : Type 0} {f : Bool → Format A} (F : Skims f) where
       record {
         skims = λ s at.
             then_same ((f true).read s at) ((f false).read s at) _ _ (F.skims s at)
-            (λ a p. then_on ((g true).read s p) ((g false).read s p) (λ b q. got (a, b) q) (G.skims s p));
+            (λ a p. then_on ((g true).read s p) ((g false).read s p) (λ b q. Ok ((a, b), q)) (G.skims s p));
       }
 
   named_skims : {B : Type 0} (to : A → B) (from : B → A) → Skims (λ check. named to from (f check))
-  named_skims to from = record { skims = λ s at. then_on ((f true).read s at) ((f false).read s at) (λ a q. got (to a) q) (F.skims s at) }
+  named_skims to from = record { skims = λ s at. then_on ((f true).read s at) ((f false).read s at) (λ a q. Ok (to a, q)) (F.skims s at) }
 
   times_same : (n : ℕ) (s : List ℕ) (at : ℕ) → Same (read_times (f true) n s at) (read_times (f false) n s at)
   unfolding read_times
   times_same zero s at = always _
   times_same (suc n) s at =
       then_same ((f true).read s at) ((f false).read s at) _ _ (F.skims s at)
-      (λ a p. then_on (read_times (f true) n s p) (read_times (f false) n s p) (λ l q. got (a ∷ l) q) (times_same n s p))
+      (λ a p. then_on (read_times (f true) n s p) (read_times (f false) n s p) (λ l q. Ok (a ∷ l, q)) (times_same n s p))
 
   counted_skims : Skims (λ check. counted (f check))
   counted_skims = record { skims = λ s at. then_same (varint.read s at) (varint.read s at) _ _ (always _) (λ n p. times_same n s p) }
@@ -90,7 +93,7 @@ module _ {A : Type 0} {f : Bool → Format A} (F : Skims f) where
       record {
         skims = λ s at.
             then_same (varint.read s at) (varint.read s at) _ _ (always _)
-            (λ n p. pick_same (ltb (limit s) n) (always (bad (why n (limit s)))) (times_same n s p));
+            (λ n p. pick_same (ltb (limit s) n) (always (Err (why n (limit s)))) (times_same n s p));
       }
 
   optional_on_lem : (b : Bool) (s : List ℕ) (at : ℕ) → Same (optional_on (f true) b s at) (optional_on (f false) b s at)
@@ -104,9 +107,9 @@ module _ {A : Type 0} {f : Bool → Format A} (F : Skims f) where
 -- Names, texts and descriptors
 
 -- what lies at the same place is the same
-text_same : (s : List ℕ) (x y : ReadText) → ((start n q : ℕ) → x ≡ Text start n q → y ≡ Text start n q) → Same (got_text s x) (got_text s y)
-text_same s (Text start n q) y h = rw (h start n q refl) (always _)
-text_same s (NoText e) y h = record { same = λ t q. no_got }
+text_same : (s : List ℕ) (x y : Got Span) → ((start n q : ℕ) → x ≡ Ok (span start n, q) → y ≡ Ok (span start n, q)) → Same (got_text s x) (got_text s y)
+text_same s (Ok (x, q)) y h = rw (h x.start x.len q refl) (always _)
+text_same s (Err e) y h = record { same = λ t q. no_got }
 
 name_format_skims : Skims name
 name_format_skims = record { skims = λ s at. text_same s (name_by true s at) (name_by false s at) (name_skims s at) }
@@ -190,5 +193,5 @@ read_same limit entry s =
     (pick_same (eqb entry 9) (saying_same (ended_same s (profile_skims.skims s 0)) said_profile)
     (pick_same (eqb entry 10) (saying_same (page_skims.skims s 0) said_page) (always _))))))))))
 
-pub entry_skims : (limit entry : ℕ) (s : List ℕ) (m : Said) (q : ℕ) → read_entry true limit entry s ≡ got m q → read_entry false limit entry s ≡ got m q
+pub entry_skims : (limit entry : ℕ) (s : List ℕ) (m : Said) (q : ℕ) → read_entry true limit entry s ≡ Ok (m, q) → read_entry false limit entry s ≡ Ok (m, q)
 entry_skims limit entry s = (read_same limit entry s).same

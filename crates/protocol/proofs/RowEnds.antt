@@ -1,15 +1,14 @@
 -- Where rows that were read end: each byte of text and each node costs a byte, and each row some more.
 use mathlib.Core.Bool.{Bool, true, false}
-use mathlib.Core.Path.{◌≡◌, refl, ap}
-use mathlib.Core.List.{List, [], ◌∷◌}
+use mathlib.Core.Path.{◌≡◌, refl}
+use mathlib.Core.List.{List}
 use Prim.Native.Nat.{ℕ, ◌+◌, ◌*◌, ◌≤◌}
 use native.Mathlib.Omega.{arith}
 use lib.ListN.{length, length-append}
-use Rattle.varint.specs.Formats.{got}
 use Rattle.varint.specs.declared.error.Mismatch.TheVariants as M
 use Rattle.varint.specs.declared.error.Refusal.TheVariants.{UnknownPredicate}
 use Rattle.varint.proofs.FormatEnds.{Ends, varint_ends, pair_ends, named_ends}
-use Rattle.varint.proofs.FormatParts.{got_of}
+use Rattle.varint.proofs.Gots.{got_of}
 use Rattle.desc.specs.Trees.{Tree}
 use Rattle.desc.proofs.LayoutLaws.{length_placed}
 use Rattle.protocol.specs.Fields.{descriptor, narrow, Optional, absent, present, optional_on, print_optional, optional}
@@ -17,8 +16,9 @@ use Rattle.protocol.specs.Fetch.{join_id, split_id, fact_id, bad_fact, pair}
 use Rattle.protocol.specs.Pieces.{Piece}
 use Rattle.protocol.specs.Profile.{to_step, from_step, step, lay_step}
 use Rattle.protocol.specs.Startup.{to_claim, from_claim, claim, lay_claim}
-use Rattle.protocol.specs.Types.{Predicate, to_predicate, from_predicate, predicate, type_width, lay_value, lay_predicate}
+use Rattle.protocol.specs.Types.{Predicate, to_predicate, from_predicate, predicate, lay_value, lay_predicate}
 use Rattle.protocol.proofs.FieldEnds.{name_ends, descriptor_ends, provided_ends, chain_ends, then_ends, stays, flag_ends, wide_flag_ends}
+use Rattle.std.specs.Prelude.{Ok}
 
 -- what a piece has of text and nodes
 abbrev pub weight : Piece → ℕ
@@ -37,7 +37,7 @@ fact_ends =
     (provided_ends fact_id bad_fact (provided_ends (λ c. narrow c.0) (λ _. UnknownPredicate) (pair_ends varint_ends varint_ends)))
 
 module _ (check : Bool) (limit : ℕ) where
-  pub value_on : (s : List ℕ) (p : ℕ) (b : Bool) (v : Optional (Tree (List ℕ))) (q : ℕ) → p ≤ length s → optional_on (descriptor check limit) b s p ≡ got v q
+  pub value_on : (s : List ℕ) (p : ℕ) (b : Bool) (v : Optional (Tree (List ℕ))) (q : ℕ) → p ≤ length s → optional_on (descriptor check limit) b s p ≡ Ok (v, q)
       → (p + weight (lay_value v) ≤ q) × (q ≤ length s)
   value_on s p true v q h e = then_ends present (λ u. weight (lay_value u)) (λ tr. refl) (descriptor_ends check limit) s p v q h e
   value_on s p false v q h e = let w = got_of e in rw (← w.0) (stays h w.1)
@@ -52,16 +52,9 @@ module _ (check : Bool) (limit : ℕ) where
       (pair_ends (provided_ends narrow (λ _. UnknownPredicate) varint_ends)
       (pair_ends (name_ends check) (pair_ends wide_flag_ends (pair_ends (descriptor_ends check limit) value_ends))))
 
-pub value_rows : (v : Optional (Tree (List ℕ))) (t n : ℕ) → (lay_value v).rows t n ≡ []
-value_rows absent t n = refl
-value_rows (present v) t n = refl
-
 pub value_nodes : (v : Optional (Tree (List ℕ))) (t n : ℕ) → length ((lay_value v).nodes t n) ≡ (lay_value v).size * 7
 value_nodes absent t n = refl
 value_nodes (present v) t n = length_placed v t n (0, 0) 0
-
-pub predicate_rows : (p : Predicate) (t n : ℕ) → length ((lay_predicate p).rows t n) ≡ type_width
-predicate_rows p t n = ap (λ (x : List ℕ). length (0 ∷ 0 ∷ 0 ∷ 0 ∷ 0 ∷ 0 ∷ x)) (value_rows p.value _ _)
 
 pub predicate_nodes : (p : Predicate) (t n : ℕ) → length ((lay_predicate p).nodes t n) ≡ (lay_predicate p).size * 7
 predicate_nodes p t n = simp (length-append, length_placed, value_nodes) (omega arith)

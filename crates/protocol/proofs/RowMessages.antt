@@ -6,31 +6,30 @@ use Prim.Native.Nat.{ℕ, ◌+◌, ◌*◌}
 use native.Mathlib.Nat.{zero-add}
 use native.Mathlib.Omega.{arith}
 use lib.ListN.{length}
-use Rattle.varint.specs.Formats.{Got, got, bad, Format, varint, read_times}
+use Rattle.varint.specs.Got.{Got}
+use Rattle.varint.specs.Formats.{Format, varint, read_times}
 use Rattle.varint.specs.declared.error.Refusal.{Refusal}
 use Rattle.varint.specs.Runs.{end_of, values_of}
-use Rattle.varint.specs.declared.run.Run.{Run}
-use Rattle.varint.specs.declared.run.Run.TheVariants.{Next, Refused as NoRun}
 use Rattle.varint.proofs.FormatParts.{times_length}
 use Rattle.varint.proofs.RunLaws.{got_run, times_run}
 use Rattle.desc.specs.Layout.{width}
 use Rattle.desc.specs.declared.Walked.{Walked}
-use Rattle.desc.specs.declared.Walked.TheVariants as W
 use Rattle.protocol.specs.Fetch.{pair}
 use Rattle.protocol.specs.Ids.{lay_id}
 use Rattle.protocol.specs.Laying.{Laid}
-use Rattle.protocol.specs.Inner.Loading.{stored, Mem, put, loaded, failed, load, load_rows, told_row, LoadsRows, outcome, told, Reads}
+use Rattle.protocol.specs.Inner.Loading.{stored, Mem, put, loaded, failed, load, load_rows, told_row, LoadsRows, outcome, told, Reads, found_with}
 use Rattle.protocol.specs.Pieces.{Piece, many}
 use Rattle.protocol.specs.Profile.{step, lay_step}
 use Rattle.protocol.specs.Startup.{claim, lay_claim}
 use Rattle.protocol.specs.Types.{predicate, lay_predicate}
 use Rattle.protocol.specs.declared.message.RowKind.TheVariants as K
 use Rattle.protocol.specs.declared.read.Found.{Found}
-use Rattle.protocol.specs.declared.read.Found.TheVariants.{Read, Refused}
 use Rattle.protocol.proofs.PieceLaws.{Seven, join_seven}
 use Rattle.protocol.proofs.RowEnds.{predicate_nodes}
 use Rattle.protocol.proofs.RowStores.{stored_none}
 use Rattle.protocol.proofs.RowsLoop.{mem}
+use Rattle.std.specs.Prelude.{Result, Ok, Err}
+use Rattle.desc.specs.Decoding.{walked_to}
 
 many_seven : {A : Type 0} (piece : A → Piece) → ((a : A) → Seven (piece a)) → (l : List A) → Seven (many piece l)
 unfolding many
@@ -41,7 +40,7 @@ many_seven piece h (a ∷ l) t n = join_seven (piece a) (many piece l) (h a) (ma
 pub record Rows {A : Type 0} (f : Format A) (piece : A → Piece) (check : Bool) (count : ℕ) (s : List ℕ) (at : ℕ) (tx : List ℕ) (t : ℕ) (rs nd : List ℕ)
     (next u k m : ℕ) (tx' rs' nd' : List ℕ) : Type 0 where
   pub list : List A
-  pub is : read_times f count s at ≡ got list next
+  pub is : read_times f count s at ≡ Ok (list, next)
   pub counted : count ≡ length list
   pub text : tx' ≡ stored check tx t (many piece list).text
   pub t_is : u ≡ t + length (many piece list).text
@@ -55,14 +54,14 @@ rows_of : {A : Type 0} (f : Format A) (piece : A → Piece) → ((a : A) → Sev
     → loaded next (mem tx' u rs' k nd' m) ≡ load check (many piece) g (mem tx t rs 0 nd 0)
     → Rows f piece check count s at tx t rs nd next u k m tx' rs' nd'
 unfolding load
-rows_of f piece seven check count s at tx t rs nd next u k m tx' rs' nd' (bad e) i h = let z : ◌≡◌ {A = ℕ} 0 1 = cc in absurd (omega arith)
-rows_of f piece seven check count s at tx t rs nd next u k m tx' rs' nd' (got l q) i h =
+rows_of f piece seven check count s at tx t rs nd next u k m tx' rs' nd' (Err e) i h = let z : ◌≡◌ {A = ℕ} 0 1 = cc in absurd (omega arith)
+rows_of f piece seven check count s at tx t rs nd next u k m tx' rs' nd' (Ok (l, q)) i h =
     let p : next ≡ q = cc in
     let e : mem tx' u rs' k nd' m ≡ put check (many piece l) (mem tx t rs 0 nd 0) = cc in
     let n : m ≡ (many piece l).size = ap (λ (y : Mem). y.n) e ∙ zero-add _ in
     record {
       list = l;
-      is = i ∙ ap (got l) (sym p);
+      is = i ∙ ap ((λ z0. Ok (l, z0))) (sym p);
       counted = sym (times_length f count s at l q i);
       text = ap (λ (y : Mem). y.text) e;
       t_is = ap (λ (y : Mem). y.t) e;
@@ -73,45 +72,45 @@ rows_of f piece seven check count s at tx t rs nd next u k m tx' rs' nd' (got l 
     }
 
 rows_bad : {A : Type 0} (f : Format A) (piece : A → Piece) (check : Bool) (count : ℕ) (s : List ℕ) (at : ℕ) (m : Mem) (e : Refusal) (g : Got (List A))
-    → read_times f count s at ≡ g → failed e ≡ load check (many piece) g m → read_times f count s at ≡ bad e
+    → read_times f count s at ≡ g → failed e ≡ load check (many piece) g m → read_times f count s at ≡ Err e
 unfolding load
-rows_bad f piece check count s at m e (got l q) i h = let z : ◌≡◌ {A = ℕ} 0 1 = cc in absurd (omega arith)
-rows_bad f piece check count s at m e (bad x) i h = let z : x ≡ e = cc in i ∙ ap bad z
+rows_bad f piece check count s at m e (Ok (l, q)) i h = let z : ◌≡◌ {A = ℕ} 0 1 = cc in absurd (omega arith)
+rows_bad f piece check count s at m e (Err x) i h = let z : x ≡ e = cc in i ∙ ap Err z
 
-module _ {check : Bool} {limit count : ℕ} {s : List ℕ} {at : ℕ} {tx : List ℕ} {t : ℕ} {rs nd : List ℕ} {k : ℕ} {x : Walked} {tx' rs' nd' : List ℕ} where
-  pub claims_went : LoadsRows K.Claim check limit count s at tx t rs nd k x tx' rs' nd' → {next u m : ℕ} → x ≡ W.Read next u m
+module _ {check : Bool} {limit count : ℕ} {s : List ℕ} {at : ℕ} {tx : List ℕ} {t : ℕ} {rs nd : List ℕ} {k : ℕ} {x : Result Walked Refusal} {tx' rs' nd' : List ℕ} where
+  pub claims_went : LoadsRows K.Claim check limit count s at tx t rs nd k x tx' rs' nd' → {next u m : ℕ} → x ≡ Ok (walked_to next u m)
       → Rows (claim check) lay_claim check count s at tx t rs nd next u k m tx' rs' nd'
   unfolding told_row load_rows
   claims_went h {next} {u} {m} i = rows_of (claim check) lay_claim (λ c u n. refl) check count s at tx t rs nd next u k m tx' rs' nd' _ refl (rw i at h.is)
 
-  pub no_claims : LoadsRows K.Claim check limit count s at tx t rs nd k x tx' rs' nd' → {e : Refusal} → x ≡ W.Refused e → read_times (claim check) count s at ≡ bad e
+  pub no_claims : LoadsRows K.Claim check limit count s at tx t rs nd k x tx' rs' nd' → {e : Refusal} → x ≡ Err e → read_times (claim check) count s at ≡ Err e
   unfolding told_row load_rows
   no_claims h {e} i = rows_bad (claim check) lay_claim check count s at (mem tx t rs 0 nd 0) e _ refl (rw i at h.is)
 
-  pub types_went : LoadsRows K.Predicate check limit count s at tx t rs nd k x tx' rs' nd' → {next u m : ℕ} → x ≡ W.Read next u m
+  pub types_went : LoadsRows K.Predicate check limit count s at tx t rs nd k x tx' rs' nd' → {next u m : ℕ} → x ≡ Ok (walked_to next u m)
       → Rows (predicate check limit) lay_predicate check count s at tx t rs nd next u k m tx' rs' nd'
   unfolding told_row load_rows
   types_went h {next} {u} {m} i = rows_of (predicate check limit) lay_predicate predicate_nodes check count s at tx t rs nd next u k m tx' rs' nd' _ refl (rw i at h.is)
 
-  pub no_types : LoadsRows K.Predicate check limit count s at tx t rs nd k x tx' rs' nd' → {e : Refusal} → x ≡ W.Refused e → read_times (predicate check limit) count s at ≡ bad e
+  pub no_types : LoadsRows K.Predicate check limit count s at tx t rs nd k x tx' rs' nd' → {e : Refusal} → x ≡ Err e → read_times (predicate check limit) count s at ≡ Err e
   unfolding told_row load_rows
   no_types h {e} i = rows_bad (predicate check limit) lay_predicate check count s at (mem tx t rs 0 nd 0) e _ refl (rw i at h.is)
 
-  pub steps_went : LoadsRows K.Step check limit count s at tx t rs nd k x tx' rs' nd' → {next u m : ℕ} → x ≡ W.Read next u m
+  pub steps_went : LoadsRows K.Step check limit count s at tx t rs nd k x tx' rs' nd' → {next u m : ℕ} → x ≡ Ok (walked_to next u m)
       → Rows (step check) lay_step check count s at tx t rs nd next u k m tx' rs' nd'
   unfolding told_row load_rows
   steps_went h {next} {u} {m} i = rows_of (step check) lay_step (λ c u n. refl) check count s at tx t rs nd next u k m tx' rs' nd' _ refl (rw i at h.is)
 
-  pub no_steps : LoadsRows K.Step check limit count s at tx t rs nd k x tx' rs' nd' → {e : Refusal} → x ≡ W.Refused e → read_times (step check) count s at ≡ bad e
+  pub no_steps : LoadsRows K.Step check limit count s at tx t rs nd k x tx' rs' nd' → {e : Refusal} → x ≡ Err e → read_times (step check) count s at ≡ Err e
   unfolding told_row load_rows
   no_steps h {e} i = rows_bad (step check) lay_step check count s at (mem tx t rs 0 nd 0) e _ refl (rw i at h.is)
 
-  pub pairs_went : LoadsRows K.Pair check limit count s at tx t rs nd k x tx' rs' nd' → {next u m : ℕ} → x ≡ W.Read next u m
+  pub pairs_went : LoadsRows K.Pair check limit count s at tx t rs nd k x tx' rs' nd' → {next u m : ℕ} → x ≡ Ok (walked_to next u m)
       → Rows pair lay_id check count s at tx t rs nd next u k m tx' rs' nd'
   unfolding told_row load_rows
   pairs_went h {next} {u} {m} i = rows_of pair lay_id (λ c u n. refl) check count s at tx t rs nd next u k m tx' rs' nd' _ refl (rw i at h.is)
 
-  pub no_pairs : LoadsRows K.Pair check limit count s at tx t rs nd k x tx' rs' nd' → {e : Refusal} → x ≡ W.Refused e → read_times pair count s at ≡ bad e
+  pub no_pairs : LoadsRows K.Pair check limit count s at tx t rs nd k x tx' rs' nd' → {e : Refusal} → x ≡ Err e → read_times pair count s at ≡ Err e
   unfolding told_row load_rows
   no_pairs h {e} i = rows_bad pair lay_id check count s at (mem tx t rs 0 nd 0) e _ refl (rw i at h.is)
 
@@ -131,12 +130,12 @@ unfolding many
 ids_nodes [] t n = refl
 ids_nodes (i ∷ l) t n = ids_nodes l (t + 0) (n + 0)
 
-module _ (count : ℕ) (s : List ℕ) (at : ℕ) {x : Run} (h : x ≡ end_of count s at) where
-  pub ids_went : {next : ℕ} → x ≡ Next next → (check : Bool) (tx rs nd : List ℕ) {rs' : List ℕ} → rs' ≡ stored check rs 0 (values_of count s at)
+module _ (count : ℕ) (s : List ℕ) (at : ℕ) {x : Result ℕ Refusal} (h : x ≡ end_of count s at) where
+  pub ids_went : {next : ℕ} → x ≡ Ok next → (check : Bool) (tx rs nd : List ℕ) {rs' : List ℕ} → rs' ≡ stored check rs 0 (values_of count s at)
       → Rows varint lay_id check count s at tx 0 rs nd next 0 count 0 tx rs' nd
   ids_went {next} i check tx rs nd k =
       let l = values_of count s at in
-      let is : read_times varint count s at ≡ got l next = times_run count s at ∙ ap (got_run l) (sym h ∙ i) in
+      let is : read_times varint count s at ≡ Ok (l, next) = times_run count s at ∙ ap (got_run l) (sym h ∙ i) in
       let counted : length l ≡ count = times_length varint count s at l next is in
       record {
         list = l;
@@ -150,17 +149,17 @@ module _ (count : ℕ) (s : List ℕ) (at : ℕ) {x : Run} (h : x ≡ end_of cou
         n_is = rw (ids_nodes l 0 0);
       }
 
-  pub no_ids : {e : Refusal} → x ≡ NoRun e → read_times varint count s at ≡ bad e
+  pub no_ids : {e : Refusal} → x ≡ Err e → read_times varint count s at ≡ Err e
   no_ids i = times_run count s at ∙ ap (got_run (values_of count s at)) (sym h ∙ i)
 
 -- a message that is refused, and one that is its rows
-pub reads_refused : {check : Bool} {g : Got Laid} {tx rs nd tx' rs' nd' : List ℕ} {e : Refusal} → g ≡ bad e → Reads check g tx rs nd (Refused e) tx' rs' nd'
+pub reads_refused : {check : Bool} {g : Got Laid} {tx rs nd tx' rs' nd' : List ℕ} {e : Refusal} → g ≡ Err e → Reads check g tx rs nd (Err e) tx' rs' nd'
 unfolding told outcome
 reads_refused h = record { is = rw h }
 
 pub rows_read : {A : Type 0} {f : Format A} {piece : A → Piece} {check : Bool} {g : Got Laid} {count : ℕ} {s : List ℕ} {at : ℕ} {tx rs nd tx' rs' nd' : List ℕ} {next u k m : ℕ}
-    {l : Laid} {q j : ℕ} {x : Found} (w : Rows f piece check count s at tx 0 rs nd next u k m tx' rs' nd') → g ≡ got l q → l.piece ≡ many piece w.list
-    → j ≡ k → x ≡ Read l.message u j (m * width) → Reads check g tx rs nd x tx' rs' nd'
+    {l : Laid} {q j : ℕ} {x : Result Found Refusal} (w : Rows f piece check count s at tx 0 rs nd next u k m tx' rs' nd') → g ≡ Ok (l, q) → l.piece ≡ many piece w.list
+    → j ≡ k → x ≡ Ok (found_with l.message u j (m * width)) → Reads check g tx rs nd x tx' rs' nd'
 unfolding told outcome
 rows_read w h p j e =
     record { is = rw (h, e, p, j, w.n_is, w.t_is, w.r_is, w.text, w.rows, w.nodes, zero-add) }

@@ -5,7 +5,8 @@ use mathlib.Core.List.{List, ◌∷◌}
 use Prim.Native.Nat.{ℕ, suc, ◌+◌, ◌*◌, ◌≤◌, ◌<◌}
 use native.Mathlib.Omega.{arith}
 use lib.ListN.{length}
-use Rattle.varint.specs.Formats.{Got, got, bad, then, Format, varint, read_times}
+use Rattle.varint.specs.Got.{Got, then}
+use Rattle.varint.specs.Formats.{Format, varint, read_times}
 use Rattle.varint.specs.declared.error.Refusal.{Refusal}
 use Rattle.varint.proofs.FormatEnds.{Ends, varint_ends}
 use Rattle.protocol.specs.Fetch.{pair}
@@ -20,20 +21,21 @@ use Rattle.protocol.specs.declared.message.RowKind.{RowKind}
 use Rattle.protocol.specs.declared.message.RowKind.TheVariants.{Claim, Id, Predicate, Step, Pair}
 use Rattle.protocol.proofs.PieceLaws.{Seven, put_none, put_join}
 use Rattle.protocol.proofs.RowEnds.{weight, claim_ends, step_ends, fact_ends, predicate_ends, predicate_nodes}
+use Rattle.std.specs.Prelude.{Ok, Err}
 
 module _ {A : Type 0} (f : Format A) (piece : A → Piece) (check : Bool) (s : List ℕ) where
   some : (n at : ℕ) (m m' : Mem) (q : ℕ) → ((a : A) → Seven (piece a)) → (x : Got A) → f.read s at ≡ x → load check piece x m ≡ loaded q m'
       → load check (many piece) (read_times f (suc n) s at) m ≡ load check (many piece) (read_times f n s q) m'
   unfolding load read_times many
-  some n at m m' q seven (bad e) i h = let z : ◌≡◌ {A = ℕ} 0 1 = cc in absurd (omega arith)
-  some n at m m' q seven (got a o) i h =
+  some n at m m' q seven (Err e) i h = let z : ◌≡◌ {A = ℕ} 0 1 = cc in absurd (omega arith)
+  some n at m m' q seven (Ok (a, o)) i h =
       let k : o ≡ q = cc in
       let l : put check (piece a) m ≡ m' = cc in
       rw (i, k, ← l) (go (read_times f n s q))
     where
-      go : (y : Got (List A)) → load check (many piece) (then y (λ b e. got (a ∷ b) e)) m ≡ load check (many piece) y (put check (piece a) m)
-      go (bad e) = refl
-      go (got b e) = ap (loaded e) (put_join check (piece a) (many piece b) m (seven a))
+      go : (y : Got (List A)) → load check (many piece) (then y (λ b e. Ok (a ∷ b, e))) m ≡ load check (many piece) y (put check (piece a) m)
+      go (Err e) = refl
+      go (Ok (b, e)) = ap (loaded e) (put_join check (piece a) (many piece b) m (seven a))
 
   none_left : (at : ℕ) (m : Mem) → load check (many piece) (read_times f 0 s at) m ≡ loaded at m
   unfolding load read_times many
@@ -42,8 +44,8 @@ module _ {A : Type 0} (f : Format A) (piece : A → Piece) (check : Bool) (s : L
   no_more : (n at : ℕ) (m : Mem) (e : Refusal) (x : Got A) → f.read s at ≡ x → load check piece x m ≡ failed e
       → load check (many piece) (read_times f (suc n) s at) m ≡ failed e
   unfolding load read_times
-  no_more n at m e (got a o) i h = let z : ◌≡◌ {A = ℕ} 0 1 = cc in absurd (omega arith)
-  no_more n at m e (bad x) i h = rw i h
+  no_more n at m e (Ok (a, o)) i h = let z : ◌≡◌ {A = ℕ} 0 1 = cc in absurd (omega arith)
+  no_more n at m e (Err x) i h = rw i h
 
 -- each kind of row
 pub rows_more : (kind : RowKind) (check : Bool) (limit n : ℕ) (s : List ℕ) (at q : ℕ) (m m' : Mem) → load_row kind check limit s at m ≡ loaded q m'
@@ -82,8 +84,8 @@ pub record Took (s : List ℕ) (at q w : ℕ) (m m' : Mem) : Type 0 where
 took : {A : Type 0} {f : Format A} {k : ℕ} (piece : A → Piece) (check : Bool) (w : ℕ) → Ends f (λ a. weight (piece a)) k → 0 < k → w ≤ 2 * k
     → (s : List ℕ) (at q : ℕ) (m m' : Mem) → at ≤ length s → (x : Got A) → f.read s at ≡ x → load check piece x m ≡ loaded q m' → Took s at q w m m'
 unfolding load
-took piece check w F z l s at q m m' h (bad e) i g = let c : ◌≡◌ {A = ℕ} 0 1 = cc in absurd (omega arith)
-took piece check w F z l s at q m m' h (got a o) i g =
+took piece check w F z l s at q m m' h (Err e) i g = let c : ◌≡◌ {A = ℕ} 0 1 = cc in absurd (omega arith)
+took piece check w F z l s at q m m' h (Ok (a, o)) i g =
     let b = F.ends s at a o h i in
     let b₀ = b.0 in
     let b₁ = b.1 in

@@ -6,11 +6,12 @@ use Prim.Native.Nat.{ℕ, suc, ◌+◌, ◌-◌, ◌*◌, ◌≤◌, ◌<◌}
 use native.Mathlib.Omega.{arith}
 use lib.ListN.{length}
 use Rattle.varint.specs.declared.error.Refusal.{Refusal}
-use Rattle.desc.specs.declared.Walked.TheVariants.{Read, Refused}
 use Rattle.protocol.specs.Inner.Loading.{Mem, Loaded, loaded, failed, load_row, load_rows, told_row, Within, LoadsRows}
 use Rattle.protocol.specs.Rows.{width_of}
 use Rattle.protocol.specs.declared.message.RowKind.{RowKind}
 use Rattle.protocol.proofs.RowsLaws.{rows_more, rows_none, rows_failed, Took, row_took}
+use Rattle.std.specs.Prelude.{Ok, Err}
+use Rattle.desc.specs.Decoding.{walked_to}
 
 abbrev pub mem : List ℕ → ℕ → List ℕ → ℕ → List ℕ → ℕ → Mem
 mem tx t rs r nd n = record { text = tx; t = t; rows = rs; r = r; nodes = nd; n = n }
@@ -30,9 +31,10 @@ module _ (kind : RowKind) (count : ℕ) (s : List ℕ) (at : ℕ) (check : Bool)
     pub rows_length : length rs ≡ length rs₀
     pub nodes_length : length nd ≡ length nd₀
 
-  pub going_start : {w : ℕ} → w ≡ width_of kind → t ≤ at → at ≤ length s → Going w tx₀ rs₀ nd₀ at t 0 0 count
-  going_start e h k =
-      record {
+  pub going_start : {w left : ℕ} → left ≡ count → w ≡ width_of kind → t ≤ at → at ≤ length s → Going w tx₀ rs₀ nd₀ at t 0 0 left
+  going_start f e h k =
+      rw f
+      (record {
         all = refl;
         texts = omega arith;
         inside = k;
@@ -42,11 +44,11 @@ module _ (kind : RowKind) (count : ℕ) (s : List ℕ) (at : ℕ) (check : Bool)
         text_length = refl;
         rows_length = refl;
         nodes_length = refl;
-      }
+      })
 
   module _ {w : ℕ} {tx rs nd : List ℕ} {p q r n left : ℕ} (g : Going w tx rs nd p q r n left) where
     pub going_done : left ≤ 0
-        → LoadsRows kind check limit count s at tx₀ t rs₀ nd₀ (count * width_of kind) (Read p q n) tx rs nd × Within s (count * width_of kind) (Read p q n)
+        → LoadsRows kind check limit count s at tx₀ t rs₀ nd₀ (count * width_of kind) (Ok (walked_to p q n)) tx rs nd × Within s (count * width_of kind) (Ok (walked_to p q n))
     unfolding told_row Within
     going_done h =
         let z : left ≡ 0 = omega arith in
@@ -64,7 +66,7 @@ module _ (kind : RowKind) (count : ℕ) (s : List ℕ) (at : ℕ) (check : Bool)
       split = g.all ∙ ap (λ (k : ℕ). load_rows kind check limit k s p (mem tx q rs r nd n)) one
 
       pub going_failed : {e : Refusal} {y : ℕ} {tx' rs' nd' : List ℕ} → failed e ≡ load_row kind check limit s p (mem tx q rs r nd n)
-          → LoadsRows kind check limit count s at tx₀ t rs₀ nd₀ y (Refused e) tx' rs' nd' × Within s y (Refused e)
+          → LoadsRows kind check limit count s at tx₀ t rs₀ nd₀ y (Err e) tx' rs' nd' × Within s y (Err e)
       unfolding told_row Within
       going_failed h = (record { is = sym (split ∙ rows_failed kind check limit (left - 1) s p (mem tx q rs r nd n) _ (sym h)) }, tt)
 
@@ -72,13 +74,14 @@ module _ (kind : RowKind) (count : ℕ) (s : List ℕ) (at : ℕ) (check : Bool)
         pub took_one : Took s p p' (width_of kind) (mem tx q rs r nd n) (mem tx' q' rs' (r + width_of kind) nd' n')
         took_one = row_took kind check limit s p p' _ _ g.inside (sym read)
 
-        fewer : r + width_of kind + (left - 1) * width_of kind ≡ count * width_of kind
-        fewer =
+        still : r + width_of kind + (left - 1) * width_of kind ≡ count * width_of kind
+        still =
             let f : r + suc (left - 1) * width_of kind ≡ count * width_of kind = rw (← one) g.rest in
             omega arith
 
-        pub going_step : length tx' ≡ length tx → length rs' ≡ length rs → length nd' ≡ length nd → Going w tx' rs' nd' p' q' (r + w) n' (left - 1)
-        going_step a b c =
+        pub going_step : {fewer : ℕ} → fewer ≡ left - 1 → length tx' ≡ length tx → length rs' ≡ length rs → length nd' ≡ length nd
+            → Going w tx' rs' nd' p' q' (r + w) n' fewer
+        going_step f a b c =
             let k = took_one in
             let k₁ = k.on in
             let k₂ = k.inside in
@@ -86,13 +89,13 @@ module _ (kind : RowKind) (count : ℕ) (s : List ℕ) (at : ℕ) (check : Bool)
             let k₄ = k.numbers in
             let g₁ = g.texts in
             let g₂ = g.numbers in
-            rw g.wide
+            rw (f, g.wide)
             (record {
               all = split ∙ rows_more kind check limit (left - 1) s p p' _ _ (sym read);
               texts = omega arith;
               inside = k₂;
               numbers = omega arith;
-              rest = fewer;
+              rest = still;
               wide = refl;
               text_length = a ∙ g.text_length;
               rows_length = b ∙ g.rows_length;

@@ -1,8 +1,9 @@
 -- 4 complete: "two varints".
 use Rattle.varint.specs.declared.error.Refusal.TheVariants.{TrailingBytes}
 use Rattle.varint.specs.Leb128.{read_from, get_u64}
-use Rattle.std.specs.Prelude.{◌≡◌, refl, List, [], ◌∷◌, ℕ}
-use Rattle.varint.specs.Formats.{Got, Format, varint, ◌⊗◌, named, got, bad}
+use Rattle.std.specs.Prelude.{◌≡◌, refl, List, [], ◌∷◌, ℕ, Ok, Err}
+use Rattle.varint.specs.Got.{Got}
+use Rattle.varint.specs.Formats.{Format, varint, ◌⊗◌, named}
 use Rattle.protocol.specs.Laying.{Laid}
 use Rattle.protocol.specs.Pieces.{none}
 use Rattle.protocol.specs.Wholes.{ended}
@@ -30,10 +31,10 @@ read_complete s = ended s (complete.read s 0)
 unfoldable pub lay_complete : Complete → Laid
 lay_complete m = record { message = Msg.Complete m.first m.second; piece = none }
 
-example_read : read_complete (3 ∷ 0x80 ∷ 0x01 ∷ []) ≡ got (record { first = 3; second = 128 }) 3
+example_read : read_complete (3 ∷ 0x80 ∷ 0x01 ∷ []) ≡ Ok ((record { first = 3; second = 128 }), 3)
 unfolding read_complete get_u64 read_from
 example_read = refl
 
-example_left : read_complete (3 ∷ 4 ∷ 5 ∷ 6 ∷ []) ≡ bad (TrailingBytes 2)
+example_left : read_complete (3 ∷ 4 ∷ 5 ∷ 6 ∷ []) ≡ Err (TrailingBytes 2)
 unfolding read_complete get_u64 read_from
 example_left = refl

@@ -4,8 +4,9 @@ use Rattle.varint.specs.Stores.{part}
 use Rattle.varint.specs.Utf8.{utf8, scan, lead}
 use Rattle.varint.specs.Texts.{skim_text, get_text, get_name}
 use Rattle.varint.specs.Leb128.{read_from, get_u64}
-use Rattle.std.specs.Prelude.{◌≡◌, refl, Bool, true, List, [], ◌∷◌, ℕ, length}
-use Rattle.varint.specs.Formats.{Got, Format, ◌⊗◌, named, bad}
+use Rattle.std.specs.Prelude.{◌≡◌, refl, Bool, true, List, [], ◌∷◌, ℕ, length, Err}
+use Rattle.varint.specs.Got.{Got}
+use Rattle.varint.specs.Formats.{Format, ◌⊗◌, named}
 use Rattle.varint.specs.Gathering.{Held, held, then_held, name_held, text_held}
 use Rattle.varint.specs.declared.error.Mismatch.TheVariants as M
 use Rattle.protocol.specs.Fields.{name, text, control_op, flag}
@@ -54,7 +55,7 @@ held_control op database allow schema tx =
     (λ x. held (record { op = op; database = d; allow_zero_facts = allow; schema = x })))
 
 -- the flag is missing
-example_flag : read_control true (2 ∷ 1 ∷ 0x61 ∷ []) ≡ bad (TypeMismatch M.ControlFlag)
+example_flag : read_control true (2 ∷ 1 ∷ 0x61 ∷ []) ≡ Err (TypeMismatch M.ControlFlag)
 unfolding read_control get_u64 read_from get_name get_text skim_text utf8 scan lead part
 example_flag = refl
 

@@ -1,7 +1,8 @@
 -- Decoding: a payload is read, laid out, and stored where it fits.
-use Rattle.std.specs.Prelude.{true, ◌≡◌, refl, List, [], ◌∷◌, ℕ, ltb, length}
+use Rattle.std.specs.Prelude.{true, ◌≡◌, refl, List, [], ◌∷◌, ℕ, ltb, length, Ok, Err, Result}
 use Rattle.varint.specs.Choice.{pick}
-use Rattle.varint.specs.Formats.{Got, got, bad, read_times}
+use Rattle.varint.specs.Got.{Got}
+use Rattle.varint.specs.Formats.{read_times}
 use Rattle.varint.specs.Leb128.{read_from, get_u64}
 use Rattle.varint.specs.Stores.{part, filled}
 use Rattle.varint.specs.Texts.{skim_text, get_text, get_name}
@@ -19,21 +20,20 @@ use Rattle.protocol.specs.Profile.{read_profile, lay_profile}
 use Rattle.protocol.specs.Control.{read_control, lay_control}
 use Rattle.protocol.specs.Types.{read_types, lay_types}
 use Rattle.protocol.specs.Said.{Said, read_entry, read_message, lay}
-use Rattle.protocol.specs.declared.message.Answer.{Answer}
-use Rattle.protocol.specs.declared.message.Answer.TheVariants.{Accepted, Refused}
 use Rattle.protocol.specs.declared.message.ControlOp.TheVariants.{Finish}
 use Rattle.protocol.specs.declared.message.Message.TheVariants as Msg
+use Rattle.protocol.specs.declared.message.Message.{Message}
 
 -- an answer, and what was lent
 pub record Left : Type 0 where
-  pub answer : Answer
+  pub answer : Result Message Refusal
   pub text : List ℕ
   pub rows : List ℕ
   pub nodes : List ℕ
 
 -- "Refused: nothing written."
 abbrev pub kept : Refusal → List ℕ → List ℕ → List ℕ → Left
-kept e tx rs nd = record { answer = Refused e; text = tx; rows = rs; nodes = nd }
+kept e tx rs nd = record { answer = Err e; text = tx; rows = rs; nodes = nd }
 
 -- "last 16 for text, rows, nodes in that order, exactly when the read message needs more than was lent". "Accepted: text holds the message's
 -- texts joined in reading order, rows and nodes hold its rows, and all three are zero from there to their ends".
@@ -46,15 +46,15 @@ fitted l tx rs nd =
     (pick (ltb (length nd) (length (l.piece.nodes 0 0)))
     (kept (TooSmall Nodes (length (l.piece.nodes 0 0))) tx rs nd)
     (record {
-      answer = Accepted l.message;
+      answer = Ok l.message;
       text = filled tx l.piece.text;
       rows = filled rs (l.piece.rows 0 0);
       nodes = filled nd (l.piece.nodes 0 0);
     })))
 
 unfoldable pub settled : Got Said → List ℕ → List ℕ → List ℕ → Left
-settled (got m q) tx rs nd = fitted (lay m) tx rs nd
-settled (bad e) tx rs nd = kept e tx rs nd
+settled (Ok (m, q)) tx rs nd = fitted (lay m) tx rs nd
+settled (Err e) tx rs nd = kept e tx rs nd
 
 -- Message `entry` of a payload: the longest payload and the depth of descriptors are parameters.
 unfoldable pub decode_message : (max limit : ℕ) → ℕ → List ℕ → List ℕ → List ℕ → List ℕ → Left
@@ -62,7 +62,7 @@ decode_message max limit entry s tx rs nd = settled (read_message true max limit
 
 -- control `02 01 61 07 00`, into buffers that were dirty
 example_control : decode_message 67108864 64 7 (0x02 ∷ 0x01 ∷ 0x61 ∷ 0x07 ∷ 0x00 ∷ []) (9 ∷ 9 ∷ []) (9 ∷ []) []
-    ≡ record { answer = Accepted (Msg.Control Finish (record { start = 0; len = 1 }) true (record { start = 1; len = 0 })); text = 0x61 ∷ 0 ∷ []; rows = 0 ∷ []; nodes = [] }
+    ≡ record { answer = Ok (Msg.Control Finish (record { start = 0; len = 1 }) true (record { start = 1; len = 0 })); text = 0x61 ∷ 0 ∷ []; rows = 0 ∷ []; nodes = [] }
 unfolding decode_message settled fitted filled read_message read_entry read_control lay lay_control get_u64 read_from get_name get_text skim_text utf8 scan lead part
 example_control = refl
 
@@ -77,7 +77,7 @@ unfolding decode_message settled fitted filled read_message read_entry read_prof
 example_first = refl
 
 -- entry 13 names no message: its payload is the one text, though it is not UTF-8
-example_opaque : decode_message 67108864 64 13 (0xFF ∷ 0x61 ∷ []) (9 ∷ 9 ∷ 9 ∷ []) (9 ∷ []) (9 ∷ []) ≡ record { answer = Accepted (Msg.Opaque (record { start = 0; len = 2 })); text = 0xFF ∷ 0x61 ∷ 0 ∷ []; rows = 0 ∷ []; nodes = 0 ∷ [] }
+example_opaque : decode_message 67108864 64 13 (0xFF ∷ 0x61 ∷ []) (9 ∷ 9 ∷ 9 ∷ []) (9 ∷ []) (9 ∷ []) ≡ record { answer = Ok (Msg.Opaque (record { start = 0; len = 2 })); text = 0xFF ∷ 0x61 ∷ 0 ∷ []; rows = 0 ∷ []; nodes = 0 ∷ [] }
 unfolding decode_message settled fitted filled read_message read_entry lay
 example_opaque = refl
 

@@ -1,11 +1,10 @@
 -- Encoding: a message is taken out of lent memory, printed, and written where it fits.
-use Rattle.std.specs.Prelude.{true, ◌≡◌, refl, List, [], ◌∷◌, ℕ, replicate}
+use Rattle.std.specs.Prelude.{true, ◌≡◌, refl, List, [], ◌∷◌, ℕ, replicate, Ok, Err, None}
 use Rattle.varint.specs.Gathering.{Held, held, lacks, then_held, text_held, name_held}
 use Rattle.varint.specs.Leb128.{put_by, put_u64}
 use Rattle.varint.specs.Outs.{Sent, wrote, send}
 use Rattle.varint.specs.Stores.{part, filled}
 use Rattle.varint.specs.Utf8.{utf8, scan, lead}
-use Rattle.varint.specs.declared.Written.TheVariants.{Wrote, Refused}
 use Rattle.varint.specs.declared.error.Buffer.TheVariants.{Out}
 use Rattle.varint.specs.declared.error.Fault.TheVariants.{Texts, RowCount, Layout, Number}
 use Rattle.varint.specs.declared.error.Refusal.TheVariants.{BadMessage, BlockTooLarge, TooSmall}
@@ -24,7 +23,6 @@ use Rattle.protocol.specs.Said.{Said, said_startup, said_ready, said_error, said
 use Rattle.protocol.specs.declared.message.Message.{Message}
 use Rattle.protocol.specs.declared.message.Message.TheVariants as Msg
 use Rattle.protocol.specs.declared.message.ControlOp.TheVariants.{Finish}
-use Rattle.protocol.specs.declared.message.Digest.TheVariants.{Absent}
 use Rattle.protocol.specs.declared.message.ErrorCode.TheVariants.{UnknownDatabase}
 
 abbrev pub held_as : {A : Type 0} → (A → Said) → Held A → Held Said
@@ -49,43 +47,43 @@ held_said limit (Msg.Opaque payload) tx rs nd = held_as opaque (raw_held tx payl
 
 unfoldable pub sent : ℕ → Held Said → List ℕ → Sent
 sent max (held m) d = send max (print_said m) d
-sent max (lacks e) d = record { answer = Refused e; out = d }
+sent max (lacks e) d = record { answer = Err e; out = d }
 
 unfoldable pub encode_message : (max limit : ℕ) → Message → List ℕ → List ℕ → List ℕ → List ℕ → Sent
 encode_message max limit message tx rs nd d = sent max (held_said limit message tx rs nd) d
 
 -- a schema that stands before the database's name in text
 example_control : encode_message 67108864 64 (Msg.Control Finish (record { start = 1; len = 1 }) true (record { start = 0; len = 1 })) (0x62 ∷ 0x61 ∷ []) [] [] (9 ∷ 9 ∷ 9 ∷ 9 ∷ 9 ∷ 9 ∷ 9 ∷ [])
-    ≡ record { answer = Wrote 6; out = 0x02 ∷ 0x01 ∷ 0x61 ∷ 0x01 ∷ 0x01 ∷ 0x62 ∷ 0 ∷ [] }
+    ≡ record { answer = Ok 6; out = 0x02 ∷ 0x01 ∷ 0x61 ∷ 0x01 ∷ 0x01 ∷ 0x62 ∷ 0 ∷ [] }
 unfolding encode_message sent held_said held_control print_said send wrote filled text_held name_held utf8 scan lead part put_u64 put_by
 example_control = refl
 
 -- a flag of 2, and a label past the text's end: 19(4) comes first
-example_order : encode_message 67108864 64 (Msg.Profile 1) [] (5 ∷ 1 ∷ 0 ∷ 2 ∷ []) [] [] ≡ record { answer = Refused (BadMessage Number); out = [] }
+example_order : encode_message 67108864 64 (Msg.Profile 1) [] (5 ∷ 1 ∷ 0 ∷ 2 ∷ []) [] [] ≡ record { answer = Err (BadMessage Number); out = [] }
 unfolding encode_message sent held_said held_profile all_good
 example_order = refl
 
 -- 19(1): a text past text's end
-example_past : encode_message 67108864 64 (Msg.Error UnknownDatabase (record { start = 0; len = 2 })) (0x61 ∷ []) [] [] (9 ∷ []) ≡ record { answer = Refused (BadMessage Texts); out = 9 ∷ [] }
+example_past : encode_message 67108864 64 (Msg.Error UnknownDatabase (record { start = 0; len = 2 })) (0x61 ∷ []) [] [] (9 ∷ []) ≡ record { answer = Err (BadMessage Texts); out = 9 ∷ [] }
 unfolding encode_message sent held_said held_error text_held
 example_past = refl
 
 -- 19(2): three ids in rows of two numbers
-example_few : encode_message 67108864 64 (Msg.Ids 3) [] (5 ∷ 6 ∷ []) [] (9 ∷ []) ≡ record { answer = Refused (BadMessage RowCount); out = 9 ∷ [] }
+example_few : encode_message 67108864 64 (Msg.Ids 3) [] (5 ∷ 6 ∷ []) [] (9 ∷ []) ≡ record { answer = Err (BadMessage RowCount); out = 9 ∷ [] }
 unfolding encode_message sent held_said held_ids
 example_few = refl
 
 -- 19(3): a type's row without its node; its name is past text's end as well, which is told later
-example_layout : encode_message 67108864 64 (Msg.Types 1) [] (3 ∷ 0 ∷ 1 ∷ 0 ∷ 0 ∷ 0 ∷ []) [] (9 ∷ []) ≡ record { answer = Refused (BadMessage Layout); out = 9 ∷ [] }
+example_layout : encode_message 67108864 64 (Msg.Types 1) [] (3 ∷ 0 ∷ 1 ∷ 0 ∷ 0 ∷ 0 ∷ []) [] (9 ∷ []) ≡ record { answer = Err (BadMessage Layout); out = 9 ∷ [] }
 unfolding encode_message sent held_said held_types all_good type_numbers types_laid type_laid table node_fits
 example_layout = refl
 
 -- 12(4097, 4096)
-example_fetch : encode_message 67108864 64 (Msg.Fetch Absent 4097) [] (replicate 4097 0) [] (9 ∷ []) ≡ record { answer = Refused (BlockTooLarge 4097 4096); out = 9 ∷ [] }
+example_fetch : encode_message 67108864 64 (Msg.Fetch None 4097) [] (replicate 4097 0) [] (9 ∷ []) ≡ record { answer = Err (BlockTooLarge 4097 4096); out = 9 ∷ [] }
 unfolding encode_message sent held_said held_fetch
 example_fetch = refl
 
 -- 16(5): three bytes into two
-example_small : encode_message 67108864 64 (Msg.Complete 3 128) [] [] [] (9 ∷ 9 ∷ []) ≡ record { answer = Refused (TooSmall Out 3); out = 9 ∷ 9 ∷ [] }
+example_small : encode_message 67108864 64 (Msg.Complete 3 128) [] [] [] (9 ∷ 9 ∷ []) ≡ record { answer = Err (TooSmall Out 3); out = 9 ∷ 9 ∷ [] }
 unfolding encode_message sent held_said print_said send wrote filled put_u64 put_by
 example_small = refl

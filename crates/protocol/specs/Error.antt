@@ -3,10 +3,11 @@ use Rattle.varint.specs.declared.error.Refusal.TheVariants.{TypeMismatch}
 use Rattle.protocol.specs.declared.message.ErrorCode.TheVariants.{UnknownDatabase}
 use Rattle.varint.specs.Stores.{part}
 use Rattle.varint.specs.Utf8.{utf8, scan, lead}
-use Rattle.varint.specs.Texts.{skim_text, get_text}
+use Rattle.varint.specs.Texts.{skim_text, get_text, span}
 use Rattle.varint.specs.Leb128.{read_from, get_u64}
-use Rattle.std.specs.Prelude.{◌≡◌, refl, Bool, true, List, [], ◌∷◌, ℕ}
-use Rattle.varint.specs.Formats.{Got, Format, ◌⊗◌, named, got, bad}
+use Rattle.std.specs.Prelude.{◌≡◌, refl, Bool, true, List, [], ◌∷◌, ℕ, Ok, Err}
+use Rattle.varint.specs.Got.{Got}
+use Rattle.varint.specs.Formats.{Format, ◌⊗◌, named}
 use Rattle.varint.specs.Gathering.{Held, held, then_held, text_held}
 use Rattle.varint.specs.declared.error.Mismatch.TheVariants as M
 use Rattle.protocol.specs.Fields.{text, error_code}
@@ -42,11 +43,11 @@ unfoldable pub held_error : ErrorCode → Span → List ℕ → Held Error
 held_error code span tx = then_held (text_held tx span.start span.len) (λ x. held (record { code = code; text = x }))
 
 -- what follows the text is ignored
-example_read : read_error true (2 ∷ 1 ∷ 0x61 ∷ 0xFF ∷ []) ≡ got (record { code = UnknownDatabase; text = 0x61 ∷ [] }) 3
+example_read : read_error true (2 ∷ 1 ∷ 0x61 ∷ 0xFF ∷ []) ≡ Ok ((record { code = UnknownDatabase; text = 0x61 ∷ [] }), 3)
 unfolding read_error get_u64 read_from get_text skim_text utf8 scan lead part
 example_read = refl
 
-example_unknown : read_error true (12 ∷ []) ≡ bad (TypeMismatch M.ErrorCode)
+example_unknown : read_error true (12 ∷ []) ≡ Err (TypeMismatch M.ErrorCode)
 unfolding read_error
 example_unknown = refl
 

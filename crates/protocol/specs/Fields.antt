@@ -1,8 +1,9 @@
 -- The fields that messages are made of, as formats.
-use Rattle.std.specs.Prelude.{Bool, true, false, not, ◌≡◌, refl, List, [], ◌∷◌, ◌++◌, ℕ, ◌+◌, ◌-◌, ltb, leb, eqb, length, drop, get_or}
+use Rattle.std.specs.Prelude.{Bool, true, false, not, ◌≡◌, refl, List, [], ◌∷◌, ◌++◌, ℕ, ◌+◌, ◌-◌, ltb, leb, eqb, length, drop, get_or, Ok, Err, Result}
 use Rattle.varint.specs.Choice.{pick}
 use Rattle.varint.specs.Fixed.{put_le}
-use Rattle.varint.specs.Formats.{Got, got, bad, then, Format, got_text, print_text, varint, fixed, named, read_times, print_all}
+use Rattle.varint.specs.Got.{Got, then}
+use Rattle.varint.specs.Formats.{Format, got_text, print_text, varint, fixed, named, read_times, print_all}
 use Rattle.varint.specs.Leb128.{read_from, get_u64, put_u64}
 use Rattle.varint.specs.Stores.{part}
 use Rattle.varint.specs.Texts.{skim_text, get_text}
@@ -11,23 +12,17 @@ use Rattle.varint.specs.declared.error.Mismatch.{Mismatch}
 use Rattle.varint.specs.declared.error.Mismatch.TheVariants as M
 use Rattle.varint.specs.declared.error.Refusal.{Refusal}
 use Rattle.varint.specs.declared.error.Refusal.TheVariants.{UnexpectedEof, BadString, TypeMismatch, LengthOutOfRange}
-use Rattle.varint.specs.declared.text.ReadText.{ReadText}
 use Rattle.desc.specs.Printing.{print}
 use Rattle.desc.specs.Reading.{name_by, desc}
 use Rattle.desc.specs.Trees.{Tree}
 use Rattle.protocol.specs.Codes.{mode_of, mode_byte, error_of, error_byte, op_of, op_byte}
 use Rattle.protocol.specs.declared.message.Mode.{Mode}
-use Rattle.protocol.specs.declared.message.MaybeMode.{MaybeMode}
-use Rattle.protocol.specs.declared.message.MaybeMode.TheVariants as MM
 use Rattle.protocol.specs.declared.message.ErrorCode.{ErrorCode}
-use Rattle.protocol.specs.declared.message.MaybeErrorCode.{MaybeErrorCode}
-use Rattle.protocol.specs.declared.message.MaybeErrorCode.TheVariants as ME
 use Rattle.protocol.specs.declared.message.ControlOp.{ControlOp}
-use Rattle.protocol.specs.declared.message.MaybeControlOp.{MaybeControlOp}
-use Rattle.protocol.specs.declared.message.MaybeControlOp.TheVariants as MC
+use Rattle.varint.specs.declared.text.Span.{Span}
 
 -- Names and free texts are checked in a message's first reading; the second only finds them again.
-abbrev pub text_by : Bool → List ℕ → ℕ → ReadText
+abbrev pub text_by : Bool → List ℕ → ℕ → Got Span
 text_by true s at = get_text s at
 text_by false s at = skim_text s at
 
@@ -43,37 +38,30 @@ descriptor check limit = record { read = desc check limit limit; print = print }
 
 -- what was read is refused where it is not good
 abbrev pub provided : {A : Type 0} → (A → Bool) → (A → Refusal) → Format A → Format A
-provided good why f = record { read = λ s at. then (f.read s at) (λ a q. pick (good a) (got a q) (bad (why a))); print = f.print }
+provided good why f = record { read = λ s at. then (f.read s at) (λ a q. pick (good a) (Ok (a, q)) (Err (why a))); print = f.print }
 
 abbrev pub narrow : ℕ → Bool
 narrow n = leb n 0xFFFFFFFF
 
 -- a byte, with what its absence is refused by
 abbrev pub byte : Refusal → Format ℕ
-byte missing = record { read = λ s at. pick (ltb at (length s)) (got (get_or s at 0) (at + 1)) (bad missing); print = λ b. b ∷ [] }
+byte missing = record { read = λ s at. pick (ltb at (length s)) (Ok (get_or s at 0, at + 1)) (Err missing); print = λ b. b ∷ [] }
+
+-- what was made of a byte, with the place after it
+abbrev pub made_at : {A : Type 0} → Result A Refusal → ℕ → Got A
+made_at (Ok a) q = Ok (a, q)
+made_at (Err e) q = Err e
 
 -- "A missing or unknown mode, code or op byte is 9"
-abbrev pub mode_got : MaybeMode → ℕ → Got Mode
-mode_got (MM.Known m) q = got m q
-mode_got MM.Unknown q = bad (TypeMismatch M.Mode)
-
 abbrev pub mode : Format Mode
-mode = record { read = λ s at. then ((byte (TypeMismatch M.Mode)).read s at) (λ b q. mode_got (mode_of b) q); print = λ m. mode_byte m ∷ [] }
-
-abbrev pub error_got : MaybeErrorCode → ℕ → Got ErrorCode
-error_got (ME.Known e) q = got e q
-error_got ME.Unknown q = bad (TypeMismatch M.ErrorCode)
+mode = record { read = λ s at. then ((byte (TypeMismatch M.Mode)).read s at) (λ b q. made_at (mode_of b) q); print = λ m. mode_byte m ∷ [] }
 
 abbrev pub error_code : Format ErrorCode
 error_code =
-    record { read = λ s at. then ((byte (TypeMismatch M.ErrorCode)).read s at) (λ b q. error_got (error_of b) q); print = λ e. error_byte e ∷ [] }
-
-abbrev pub op_got : MaybeControlOp → ℕ → Got ControlOp
-op_got (MC.Known o) q = got o q
-op_got MC.Unknown q = bad (TypeMismatch M.ControlOp)
+    record { read = λ s at. then ((byte (TypeMismatch M.ErrorCode)).read s at) (λ b q. made_at (error_of b) q); print = λ e. error_byte e ∷ [] }
 
 abbrev pub control_op : Format ControlOp
-control_op = record { read = λ s at. then ((byte (TypeMismatch M.ControlOp)).read s at) (λ b q. op_got (op_of b) q); print = λ o. op_byte o ∷ [] }
+control_op = record { read = λ s at. then ((byte (TypeMismatch M.ControlOp)).read s at) (λ b q. made_at (op_of b) q); print = λ o. op_byte o ∷ [] }
 
 -- "virtual 0 or 1", "full scan 0 or 1": a flag as a number
 abbrev pub bit : Bool → ℕ
@@ -98,8 +86,8 @@ pub data Optional (A : Type 0) : Type 0 where
 
 -- "has value, value"
 abbrev pub optional_on : {A : Type 0} → Format A → Bool → List ℕ → ℕ → Got (Optional A)
-optional_on f true s at = then (f.read s at) (λ a q. got (present a) q)
-optional_on f false s at = got absent at
+optional_on f true s at = then (f.read s at) (λ a q. Ok (present a, q))
+optional_on f false s at = Ok (absent, at)
 
 abbrev pub print_optional : {A : Type 0} → Format A → Optional A → List ℕ
 print_optional f absent = put_u64 0
@@ -112,7 +100,7 @@ optional f = record { read = λ s at. then (wide_flag.read s at) (λ b q. option
 abbrev pub counted_to : {A : Type 0} → (List ℕ → ℕ) → (ℕ → ℕ → Refusal) → Format A → Format (List A)
 counted_to limit why f =
     record {
-      read = λ s at. then (varint.read s at) (λ n p. pick (ltb (limit s) n) (bad (why n (limit s))) (read_times f n s p));
+      read = λ s at. then (varint.read s at) (λ n p. pick (ltb (limit s) n) (Err (why n (limit s))) (read_times f n s p));
       print = λ l. put_u64 (length l) ++ print_all f l;
     }
 
@@ -120,7 +108,7 @@ counted_to limit why f =
 abbrev pub raw : Format (List ℕ)
 raw =
     record {
-      read = λ s at. then ((fixed 4).read s at) (λ n p. pick (ltb (length s - p) n) (bad UnexpectedEof) (got (part s p n) (p + n)));
+      read = λ s at. then ((fixed 4).read s at) (λ n p. pick (ltb (length s - p) n) (Err UnexpectedEof) (Ok (part s p n, p + n)));
       print = λ x. put_le 4 (length x) ++ x;
     }
 
@@ -128,17 +116,17 @@ raw =
 abbrev pub to_end : Bool → Format (List ℕ)
 to_end check =
     record {
-      read = λ s at. pick check (pick (utf8 (drop at s)) (got (drop at s) (length s)) (bad BadString)) (got (drop at s) (length s));
+      read = λ s at. pick check (pick (utf8 (drop at s)) (Ok (drop at s, length s)) (Err BadString)) (Ok (drop at s, length s));
       print = λ x. x;
     }
 
 -- 7 is yes, and written as 1
-example_flag : (flag M.ControlFlag).read (7 ∷ []) 0 ≡ got true 1
+example_flag : (flag M.ControlFlag).read (7 ∷ []) 0 ≡ Ok (true, 1)
 example_flag = refl
 
-example_missing : (flag M.ControlFlag).read [] 0 ≡ bad (TypeMismatch M.ControlFlag)
+example_missing : (flag M.ControlFlag).read [] 0 ≡ Err (TypeMismatch M.ControlFlag)
 example_missing = refl
 
-example_count : (counted_to length LengthOutOfRange varint).read (3 ∷ 0 ∷ []) 0 ≡ bad (LengthOutOfRange 3 2)
+example_count : (counted_to length LengthOutOfRange varint).read (3 ∷ 0 ∷ []) 0 ≡ Err (LengthOutOfRange 3 2)
 unfolding get_u64 read_from
 example_count = refl

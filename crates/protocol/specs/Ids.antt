@@ -1,7 +1,8 @@
 -- 5 ids: "count, raw ids; bytes after ignored".
 use Rattle.varint.specs.Leb128.{read_from, get_u64}
-use Rattle.std.specs.Prelude.{◌≡◌, refl, List, [], ◌∷◌, ℕ, length, get_or}
-use Rattle.varint.specs.Formats.{Got, Format, varint, counted, got, read_times}
+use Rattle.std.specs.Prelude.{◌≡◌, refl, List, [], ◌∷◌, ℕ, length, get_or, Ok}
+use Rattle.varint.specs.Got.{Got}
+use Rattle.varint.specs.Formats.{Format, varint, counted, read_times}
 use Rattle.varint.specs.Gathering.{Held, held}
 use Rattle.protocol.specs.Laying.{Laid}
 use Rattle.protocol.specs.Pieces.{Piece, cells, many}
@@ -32,7 +33,7 @@ unfoldable pub held_ids : ℕ → List ℕ → Held (List ℕ)
 held_ids count rs = enough id_width count rs (held_times (held_id rs) id_width count 0)
 
 -- what follows the ids is ignored
-example_read : read_ids (2 ∷ 5 ∷ 6 ∷ 0xFF ∷ []) ≡ got (5 ∷ 6 ∷ []) 3
+example_read : read_ids (2 ∷ 5 ∷ 6 ∷ 0xFF ∷ []) ≡ Ok (5 ∷ 6 ∷ [], 3)
 unfolding read_ids read_times get_u64 read_from
 example_read = refl
 

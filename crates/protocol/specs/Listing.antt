@@ -1,7 +1,8 @@
 -- 12 listing digest: "predicate (over 32 bits is 14), digest".
 use Rattle.varint.specs.Leb128.{read_from, get_u64}
-use Rattle.std.specs.Prelude.{◌≡◌, refl, List, [], ◌∷◌, ℕ}
-use Rattle.varint.specs.Formats.{Got, Format, varint, ◌⊗◌, named, got, bad}
+use Rattle.std.specs.Prelude.{◌≡◌, refl, List, [], ◌∷◌, ℕ, Ok, Err}
+use Rattle.varint.specs.Got.{Got}
+use Rattle.varint.specs.Formats.{Format, varint, ◌⊗◌, named}
 use Rattle.varint.specs.declared.error.Refusal.TheVariants.{BadListingPredicate}
 use Rattle.protocol.specs.Fields.{provided, narrow}
 use Rattle.protocol.specs.Laying.{Laid}
@@ -31,11 +32,11 @@ read_listing s = ended s (listing.read s 0)
 unfoldable pub lay_listing : Listing → Laid
 lay_listing m = record { message = Msg.ListingDigest m.predicate m.digest; piece = none }
 
-example_read : read_listing (0xFF ∷ 0xFF ∷ 0xFF ∷ 0xFF ∷ 0x0F ∷ 0x00 ∷ []) ≡ got (record { predicate = 4294967295; digest = 0 }) 6
+example_read : read_listing (0xFF ∷ 0xFF ∷ 0xFF ∷ 0xFF ∷ 0x0F ∷ 0x00 ∷ []) ≡ Ok ((record { predicate = 4294967295; digest = 0 }), 6)
 unfolding read_listing get_u64 read_from
 example_read = refl
 
 -- the predicate is refused before the digest is missed
-example_wide : read_listing (0x80 ∷ 0x80 ∷ 0x80 ∷ 0x80 ∷ 0x10 ∷ []) ≡ bad (BadListingPredicate 4294967296)
+example_wide : read_listing (0x80 ∷ 0x80 ∷ 0x80 ∷ 0x80 ∷ 0x10 ∷ []) ≡ Err (BadListingPredicate 4294967296)
 unfolding read_listing get_u64 read_from
 example_wide = refl

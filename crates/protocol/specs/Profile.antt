@@ -3,8 +3,9 @@ use Rattle.varint.specs.Stores.{part}
 use Rattle.varint.specs.Utf8.{utf8, scan, lead}
 use Rattle.varint.specs.Texts.{skim_text, get_text, get_name}
 use Rattle.varint.specs.Leb128.{read_from, get_u64}
-use Rattle.std.specs.Prelude.{◌≡◌, refl, Bool, true, false, List, [], ◌∷◌, ℕ, ◌+◌, leb, length, get_or}
-use Rattle.varint.specs.Formats.{Got, Format, varint, ◌⊗◌, named, got, bad, read_times}
+use Rattle.std.specs.Prelude.{◌≡◌, refl, Bool, true, false, List, [], ◌∷◌, ℕ, ◌+◌, leb, length, get_or, Ok, Err}
+use Rattle.varint.specs.Got.{Got}
+use Rattle.varint.specs.Formats.{Format, varint, ◌⊗◌, named, read_times}
 use Rattle.varint.specs.Gathering.{Held, held, then_held, text_held, name_held}
 use Rattle.varint.specs.declared.error.Mismatch.TheVariants as M
 use Rattle.varint.specs.declared.error.Refusal.TheVariants.{LengthOutOfRange}
@@ -62,12 +63,12 @@ unfoldable pub held_profile : ℕ → List ℕ → List ℕ → Held (List Step)
 held_profile count tx rs =
     enough step_width count rs (numbers_good (all_good (step_numbers rs) step_width count 0) (held_times (held_step tx rs) step_width count 0))
 
-example_read : read_profile true (1 ∷ 1 ∷ 0x61 ∷ 9 ∷ 0 ∷ []) ≡ got (record { label = 0x61 ∷ []; examined = 9; full_scan = false } ∷ []) 5
+example_read : read_profile true (1 ∷ 1 ∷ 0x61 ∷ 9 ∷ 0 ∷ []) ≡ Ok ((record { label = 0x61 ∷ []; examined = 9; full_scan = false } ∷ []), 5)
 unfolding read_profile read_times get_u64 read_from get_name get_text skim_text utf8 scan lead part
 example_read = refl
 
 -- three steps are declared, and the whole payload has two bytes
-example_count : read_profile true (3 ∷ 0 ∷ []) ≡ bad (LengthOutOfRange 3 2)
+example_count : read_profile true (3 ∷ 0 ∷ []) ≡ Err (LengthOutOfRange 3 2)
 unfolding read_profile get_u64 read_from
 example_count = refl
 

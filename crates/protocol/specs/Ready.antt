@@ -1,7 +1,8 @@
 -- 2 ready: "version, fingerprint, predicates".
 use Rattle.varint.specs.Leb128.{read_from, get_u64}
-use Rattle.std.specs.Prelude.{◌≡◌, refl, List, [], ◌∷◌, ℕ}
-use Rattle.varint.specs.Formats.{Got, Format, varint, ◌⊗◌, named, got}
+use Rattle.std.specs.Prelude.{◌≡◌, refl, List, [], ◌∷◌, ℕ, Ok}
+use Rattle.varint.specs.Got.{Got}
+use Rattle.varint.specs.Formats.{Format, varint, ◌⊗◌, named}
 use Rattle.protocol.specs.Laying.{Laid}
 use Rattle.protocol.specs.Pieces.{none}
 use Rattle.protocol.specs.Wholes.{ended, versioned}
@@ -31,6 +32,6 @@ read_ready s = versioned (λ m. m.version) (ended s (ready.read s 0))
 unfoldable pub lay_ready : Ready → Laid
 lay_ready m = record { message = Msg.Ready m.version m.fingerprint m.predicates; piece = none }
 
-example_read : read_ready (4 ∷ 7 ∷ 9 ∷ []) ≡ got (record { version = 4; fingerprint = 7; predicates = 9 }) 3
+example_read : read_ready (4 ∷ 7 ∷ 9 ∷ []) ≡ Ok ((record { version = 4; fingerprint = 7; predicates = 9 }), 3)
 unfolding read_ready get_u64 read_from
 example_read = refl

@@ -5,8 +5,9 @@ use Rattle.varint.specs.Stores.{part}
 use Rattle.varint.specs.Utf8.{utf8, scan, lead}
 use Rattle.varint.specs.Texts.{skim_text, get_text, get_name}
 use Rattle.varint.specs.Leb128.{read_from, get_u64}
-use Rattle.std.specs.Prelude.{◌≡◌, refl, Bool, true, List, ◌++◌, [], ◌∷◌, ℕ}
-use Rattle.varint.specs.Formats.{Got, got, then, Format, varint, ◌⊗◌, named, bad}
+use Rattle.std.specs.Prelude.{◌≡◌, refl, Bool, true, List, ◌++◌, [], ◌∷◌, ℕ, Ok, Err}
+use Rattle.varint.specs.Got.{Got, then}
+use Rattle.varint.specs.Formats.{Format, varint, ◌⊗◌, named}
 use Rattle.varint.specs.Gathering.{Held, held, lacks, then_held, text_held, name_held}
 use Rattle.varint.specs.declared.error.Mismatch.TheVariants as M
 use Rattle.protocol.specs.Fields.{name, control_op, flag}
@@ -46,9 +47,9 @@ finish =
 
 -- what follows the op
 abbrev pub reply_on : Bool → ControlOp → List ℕ → ℕ → Got Reply
-reply_on check Create s at = then ((name check).read s at) (λ i q. got (created i) q)
-reply_on check Finish s at = then (finish.read s at) (λ f q. got (finished f) q)
-reply_on check Remove s at = got removed at
+reply_on check Create s at = then ((name check).read s at) (λ i q. Ok (created i, q))
+reply_on check Finish s at = then (finish.read s at) (λ f q. Ok (finished f, q))
+reply_on check Remove s at = Ok (removed, at)
 
 abbrev pub print_reply : Reply → List ℕ
 print_reply (created i) = control_op.print Create ++ (name true).print i
@@ -72,16 +73,16 @@ held_reply (R.Finished fingerprint facts bytes complete) tx =
     held (finished (record { fingerprint = fingerprint; facts = facts; bytes = bytes; already_complete = complete }))
 held_reply R.Removed tx = held removed
 
-example_created : read_reply true (1 ∷ 1 ∷ 0x61 ∷ []) ≡ got (created (0x61 ∷ [])) 3
+example_created : read_reply true (1 ∷ 1 ∷ 0x61 ∷ []) ≡ Ok ((created (0x61 ∷ [])), 3)
 unfolding read_reply get_u64 read_from get_name get_text skim_text utf8 scan lead part
 example_created = refl
 
 -- a flag of 7 is yes
-example_finished : read_reply true (2 ∷ 4 ∷ 5 ∷ 6 ∷ 7 ∷ []) ≡ got (finished (record { fingerprint = 4; facts = 5; bytes = 6; already_complete = true })) 5
+example_finished : read_reply true (2 ∷ 4 ∷ 5 ∷ 6 ∷ 7 ∷ []) ≡ Ok ((finished (record { fingerprint = 4; facts = 5; bytes = 6; already_complete = true })), 5)
 unfolding read_reply get_u64 read_from
 example_finished = refl
 
-example_removed : read_reply true (3 ∷ 0 ∷ []) ≡ bad (TrailingBytes 1)
+example_removed : read_reply true (3 ∷ 0 ∷ []) ≡ Err (TrailingBytes 1)
 unfolding read_reply
 example_removed = refl
 

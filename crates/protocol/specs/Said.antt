@@ -1,7 +1,8 @@
 -- What is said by a message of each number, read from a payload, printed, and laid out for lent memory.
-use Rattle.std.specs.Prelude.{Bool, true, ◌&&◌, List, ℕ, ltb, leb, eqb, length}
+use Rattle.std.specs.Prelude.{Bool, true, ◌&&◌, List, ℕ, ltb, leb, eqb, length, Ok, Err}
 use Rattle.varint.specs.Choice.{pick}
-use Rattle.varint.specs.Formats.{Got, got, bad, then, counted}
+use Rattle.varint.specs.Got.{Got, then}
+use Rattle.varint.specs.Formats.{counted}
 use Rattle.varint.specs.declared.error.Refusal.TheVariants.{BlockTooLarge}
 use Rattle.protocol.specs.Laying.{Laid, span_of}
 use Rattle.protocol.specs.Pieces.{words}
@@ -35,7 +36,7 @@ pub data Said : Type 0 where
   opaque : List ℕ → Said
 
 abbrev pub saying : {A : Type 0} → (A → Said) → Got A → Got Said
-saying to g = then g (λ a q. got (to a) q)
+saying to g = then g (λ a q. Ok (to a, q))
 
 -- Message `entry` of a payload. "An entry 1 to 12 names a message; any other is opaque: its payload, not checked for UTF-8, is the one text".
 unfoldable pub read_entry : Bool → ℕ → ℕ → List ℕ → Got Said
@@ -52,12 +53,12 @@ read_entry check limit entry s =
     (pick (eqb entry 10) (saying said_page (read_page check s))
     (pick (eqb entry 11) (saying said_fetch (read_fetch s))
     (pick (eqb entry 12) (saying said_listing (read_listing s))
-    (got (opaque s) (length s)))))))))))))
+    (Ok (opaque s, length s)))))))))))))
 
 -- "Every message decoder: first 12 for a payload over 67,108,864 bytes"; an opaque payload has no such refusal
 unfoldable pub read_message : Bool → (max limit : ℕ) → ℕ → List ℕ → Got Said
 read_message check max limit entry s =
-    pick (ltb 0 entry && leb entry 12 && ltb max (length s)) (bad (BlockTooLarge (length s) max)) (read_entry check limit entry s)
+    pick (ltb 0 entry && leb entry 12 && ltb max (length s)) (Err (BlockTooLarge (length s) max)) (read_entry check limit entry s)
 
 -- the bytes; how deep descriptors may nest is no matter of printing
 unfoldable pub print_said : Said → List ℕ

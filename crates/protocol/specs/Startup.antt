@@ -4,8 +4,9 @@ use Rattle.varint.specs.Stores.{part}
 use Rattle.varint.specs.Utf8.{utf8, scan, lead}
 use Rattle.varint.specs.Texts.{skim_text, get_text, get_name}
 use Rattle.varint.specs.Leb128.{read_from, get_u64, put_by, put_u64}
-use Rattle.std.specs.Prelude.{◌≡◌, refl, Bool, true, List, [], ◌∷◌, ℕ, ◌+◌, length, get_or}
-use Rattle.varint.specs.Formats.{Got, Format, varint, ◌⊗◌, named, counted, got, read_times, print_all}
+use Rattle.std.specs.Prelude.{◌≡◌, refl, Bool, true, List, [], ◌∷◌, ℕ, ◌+◌, length, get_or, Ok}
+use Rattle.varint.specs.Got.{Got}
+use Rattle.varint.specs.Formats.{Format, varint, ◌⊗◌, named, counted, read_times, print_all}
 use Rattle.varint.specs.Gathering.{Held, held, then_held, name_held, text_held}
 use Rattle.protocol.specs.Fields.{name, mode}
 use Rattle.protocol.specs.Laying.{Laid, span_of}
@@ -88,7 +89,7 @@ held_startup version database mode fingerprint count tx rs =
 abbrev sample : Startup
 sample = record { version = spoken_version; database = 0x64 ∷ []; mode = ReadWrite; fingerprint = 7; claims = record { name = 0x61 ∷ []; fingerprint = 5 } ∷ [] }
 
-example_read : read_startup true (4 ∷ 1 ∷ 0x64 ∷ 1 ∷ 7 ∷ 1 ∷ 1 ∷ 0x61 ∷ 5 ∷ []) ≡ got sample 9
+example_read : read_startup true (4 ∷ 1 ∷ 0x64 ∷ 1 ∷ 7 ∷ 1 ∷ 1 ∷ 0x61 ∷ 5 ∷ []) ≡ Ok (sample, 9)
 unfolding read_startup read_times get_u64 read_from get_name get_text skim_text utf8 scan lead part
 example_read = refl
 

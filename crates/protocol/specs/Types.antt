@@ -4,9 +4,10 @@ use Rattle.varint.specs.Stores.{part}
 use Rattle.varint.specs.Utf8.{utf8, scan, lead}
 use Rattle.varint.specs.Texts.{skim_text, get_text, get_name}
 use Rattle.varint.specs.Leb128.{read_from, get_u64}
-use Rattle.std.specs.Prelude.{◌≡◌, refl, Bool, true, false, ◌&&◌, List, [], ◌∷◌, ℕ, zero, suc, ◌+◌, leb, eqb, length, get_or}
+use Rattle.std.specs.Prelude.{◌≡◌, refl, Bool, true, false, ◌&&◌, List, [], ◌∷◌, ℕ, zero, suc, ◌+◌, leb, eqb, length, get_or, Ok, Err}
 use Rattle.varint.specs.Choice.{pick}
-use Rattle.varint.specs.Formats.{Got, got, bad, Format, varint, ◌⊗◌, named, counted, read_times}
+use Rattle.varint.specs.Got.{Got}
+use Rattle.varint.specs.Formats.{Format, varint, ◌⊗◌, named, counted, read_times}
 use Rattle.varint.specs.Gathering.{Held, held, lacks, then_held, name_held, text_held}
 use Rattle.varint.specs.declared.error.Fault.TheVariants.{Layout}
 use Rattle.varint.specs.declared.error.Refusal.TheVariants.{UnknownPredicate, BadMessage}
@@ -74,8 +75,8 @@ type_numbers rs r = narrow (get_or rs r 0) && leb (get_or rs (r + 3) 0) 1 && leb
 
 -- the node after the tree at node n; "19(3) nodes .. not laid out as above"
 abbrev pub node_after : Got (Tree (ℕ × ℕ)) → Held ℕ
-node_after (got tr next) = held next
-node_after (bad e) = lacks e
+node_after (Ok (tr, next)) = held next
+node_after (Err e) = lacks e
 
 -- the node after the nodes of the type whose row starts at number r, the first of which must be node n
 unfoldable pub type_laid : ℕ → List ℕ → List ℕ → ℕ → ℕ → Held ℕ
@@ -108,7 +109,7 @@ held_types limit count tx rs nd =
 abbrev sample : Predicate
 sample = record { id = 3; name = 0x70 ∷ []; virtual = false; key = leaf 0 0; value = present (leaf 1 0) }
 
-example_read : read_types true 64 (1 ∷ 3 ∷ 1 ∷ 0x70 ∷ 0 ∷ 0 ∷ 1 ∷ 1 ∷ 0xFF ∷ []) ≡ got (sample ∷ []) 8
+example_read : read_types true 64 (1 ∷ 3 ∷ 1 ∷ 0x70 ∷ 0 ∷ 0 ∷ 1 ∷ 1 ∷ 0xFF ∷ []) ≡ Ok (sample ∷ [], 8)
 unfolding read_types read_times desc children head_at label_at get_u64 read_from get_name get_text skim_text utf8 scan lead part
 example_read = refl
 

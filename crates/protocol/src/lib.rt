@@ -10,34 +10,23 @@ mod read;
 mod rows;
 
 ghost use Rattle.std.specs.Prelude.{◌≡◌, ◌≤◌, ◌<◌, length};
-ghost use Rattle.varint.specs.declared.error.Refusal.TheVariants.{TooSmall};
 ghost use Rattle.protocol.specs.Decoding.{decode_message};
 ghost use Rattle.varint.specs.Stores.{clear_from};
 ghost use Rattle.protocol.specs.Inner.Loading.{Opaque, BareEntry, RoomyEntry};
-ghost use Rattle.protocol.specs.declared.message.Answer.TheVariants as Ans;
 
 use desc::{MAX_DEPTH, MAX_PAYLOAD};
-use message::{Answer, Message, Span};
+use message::{Message, Span};
 use read::{Found, read_bare, read_message};
 use varint::error::{Buffer, Refusal};
-use varint::store::{clear_bytes, clear_numbers, copy_bytes};
-
-fn too_small(which: Buffer, needed: usize) -> Answer
-    ensures { result ≡ Ans.Refused (TooSmall which needed) }
-{
-    Answer::Refused(Refusal::TooSmall {
-        which,
-        needed: needed as u64,
-    })
-}
+use varint::store::{copy_bytes, fill_from};
 
 // Zeros behind what a message takes of each buffer.
 fn clear_behind(text: &mut [u8], t: usize, rows: &mut [u64], r: usize, nodes: &mut [u64], k: usize)
     ensures { (text.new ≡ clear_from text.old t) × (rows.new ≡ clear_from rows.old r) × (nodes.new ≡ clear_from nodes.old k) }
 {
-    clear_bytes(text, t);
-    clear_numbers(rows, r);
-    clear_numbers(nodes, k);
+    fill_from(text, t, 0);
+    fill_from(rows, r, 0);
+    fill_from(nodes, k, 0);
 }
 
 // A payload that is no message is one text, whatever its bytes.
@@ -49,17 +38,17 @@ fn decode_opaque(
     text: &mut [u8],
     rows: &mut [u64],
     nodes: &mut [u64],
-) -> Answer
+) -> Result<Message, Refusal>
     requires { Opaque entry }
     ensures { record { answer = result; text = text.new; rows = rows.new; nodes = nodes.new } ≡ decode_message max limit entry payload.now text.old rows.old nodes.old }
 {
     let len = payload.len();
     if text.len() < len {
-        return too_small(Buffer::Text, len);
+        return Err(Refusal::too_small(Buffer::Text, len));
     }
     copy_bytes(payload, 0, len, text, 0);
     clear_behind(text, len, rows, 0, nodes, 0);
-    Answer::Accepted(Message::Opaque {
+    Ok(Message::Opaque {
         payload: Span {
             start: 0,
             len: len as u64,
@@ -68,6 +57,7 @@ fn decode_opaque(
 }
 
 // A message of numbers alone takes no memory: nothing is stored, and what was lent is cleared.
+#[tactic(auto, using(crate::proofs::DecodeLaws::decode_bare_refused, crate::proofs::DecodeLaws::decode_bare_read))]
 fn decode_bare(
     entry: u8,
     payload: &[u8],
@@ -76,22 +66,13 @@ fn decode_bare(
     text: &mut [u8],
     rows: &mut [u64],
     nodes: &mut [u64],
-) -> Answer
+) -> Result<Message, Refusal>
     requires { BareEntry entry × (length payload.now ≤ max) }
     ensures { record { answer = result; text = text.new; rows = rows.new; nodes = nodes.new } ≡ decode_message max limit entry payload.now text.old rows.old nodes.old }
 {
-    match read_bare(entry, payload) {
-        Found::Refused(e) => Answer::Refused(e),
-        Found::Read {
-            message,
-            text: _,
-            rows: _,
-            nodes: _,
-        } => {
-            clear_behind(text, 0, rows, 0, nodes, 0);
-            Answer::Accepted(message)
-        }
-    }
+    let found = read_bare(entry, payload)?;
+    clear_behind(text, 0, rows, 0, nodes, 0);
+    Ok(found.message)
 }
 
 // A message that fits what was lent is stored, and what it does not fill is cleared.
@@ -103,42 +84,39 @@ fn decode_fitting(
     text: &mut [u8],
     rows: &mut [u64],
     nodes: &mut [u64],
-) -> Answer
+) -> Result<Message, Refusal>
     requires { RoomyEntry entry × (length payload.now ≤ max) × (max ≤ 4294967296) }
     ensures { record { answer = result; text = text.new; rows = rows.new; nodes = nodes.new } ≡ decode_message max limit entry payload.now text.old rows.old nodes.old }
 {
     let mut a = [0u8; 1];
     let mut b = [0u64; 1];
     let mut c = [0u64; 1];
-    match read_message(entry, payload, true, limit, &mut a, &mut b, &mut c) {
-        Found::Refused(e) => Answer::Refused(e),
-        Found::Read {
-            message,
-            text: t,
-            rows: r,
-            nodes: k,
-        } => {
-            if text.len() < t {
-                return too_small(Buffer::Text, t);
-            }
-            if rows.len() < r {
-                return too_small(Buffer::Rows, r);
-            }
-            if nodes.len() < k {
-                return too_small(Buffer::Nodes, k);
-            }
-            if (t == 0) & (r == 0) & (k == 0) {
-                clear_behind(text, 0, rows, 0, nodes, 0);
-                return Answer::Accepted(message);
-            }
-            read_message(entry, payload, false, limit, text, rows, nodes);
-            clear_behind(text, t, rows, r, nodes, k);
-            Answer::Accepted(message)
-        }
+    let Found {
+        message,
+        text: t,
+        rows: r,
+        nodes: k,
+    } = read_message(entry, payload, true, limit, &mut a, &mut b, &mut c)?;
+    if text.len() < t {
+        return Err(Refusal::too_small(Buffer::Text, t));
     }
+    if rows.len() < r {
+        return Err(Refusal::too_small(Buffer::Rows, r));
+    }
+    if nodes.len() < k {
+        return Err(Refusal::too_small(Buffer::Nodes, k));
+    }
+    if (t == 0) & (r == 0) & (k == 0) {
+        clear_behind(text, 0, rows, 0, nodes, 0);
+        return Ok(message);
+    }
+    let _ = read_message(entry, payload, false, limit, text, rows, nodes);
+    clear_behind(text, t, rows, r, nodes, k);
+    Ok(message)
 }
 
 // The longest payload and the depth of descriptors are given.
+#[tactic(auto, using(crate::proofs::DecodeLaws::decode_long))]
 fn decode_within(
     entry: u8,
     payload: &[u8],
@@ -147,7 +125,7 @@ fn decode_within(
     text: &mut [u8],
     rows: &mut [u64],
     nodes: &mut [u64],
-) -> Answer
+) -> Result<Message, Refusal>
     requires { max ≤ 4294967296 }
     ensures { record { answer = result; text = text.new; rows = rows.new; nodes = nodes.new } ≡ decode_message max limit entry payload.now text.old rows.old nodes.old }
 {
@@ -159,7 +137,7 @@ fn decode_within(
     }
     let length = payload.len() as u64;
     if max < length {
-        return Answer::Refused(Refusal::BlockTooLarge {
+        return Err(Refusal::BlockTooLarge {
             declared: length,
             max,
         });
@@ -177,7 +155,7 @@ pub fn decode(
     text: &mut [u8],
     rows: &mut [u64],
     nodes: &mut [u64],
-) -> Answer
+) -> Result<Message, Refusal>
     ensures { record { answer = result; text = text.new; rows = rows.new; nodes = nodes.new } ≡ decode_message 67108864 64 entry payload.now text.old rows.old nodes.old }
 {
     decode_within(entry, payload, MAX_PAYLOAD, MAX_DEPTH, text, rows, nodes)
@@ -188,19 +166,29 @@ pub fn decode_startup(
     text: &mut [u8],
     rows: &mut [u64],
     nodes: &mut [u64],
-) -> Answer
+) -> Result<Message, Refusal>
     ensures { record { answer = result; text = text.new; rows = rows.new; nodes = nodes.new } ≡ decode_message 67108864 64 1 payload.now text.old rows.old nodes.old }
 {
     decode(1, payload, text, rows, nodes)
 }
 
-pub fn decode_ready(payload: &[u8], text: &mut [u8], rows: &mut [u64], nodes: &mut [u64]) -> Answer
+pub fn decode_ready(
+    payload: &[u8],
+    text: &mut [u8],
+    rows: &mut [u64],
+    nodes: &mut [u64],
+) -> Result<Message, Refusal>
     ensures { record { answer = result; text = text.new; rows = rows.new; nodes = nodes.new } ≡ decode_message 67108864 64 2 payload.now text.old rows.old nodes.old }
 {
     decode(2, payload, text, rows, nodes)
 }
 
-pub fn decode_error(payload: &[u8], text: &mut [u8], rows: &mut [u64], nodes: &mut [u64]) -> Answer
+pub fn decode_error(
+    payload: &[u8],
+    text: &mut [u8],
+    rows: &mut [u64],
+    nodes: &mut [u64],
+) -> Result<Message, Refusal>
     ensures { record { answer = result; text = text.new; rows = rows.new; nodes = nodes.new } ≡ decode_message 67108864 64 3 payload.now text.old rows.old nodes.old }
 {
     decode(3, payload, text, rows, nodes)
@@ -211,19 +199,29 @@ pub fn decode_complete(
     text: &mut [u8],
     rows: &mut [u64],
     nodes: &mut [u64],
-) -> Answer
+) -> Result<Message, Refusal>
     ensures { record { answer = result; text = text.new; rows = rows.new; nodes = nodes.new } ≡ decode_message 67108864 64 4 payload.now text.old rows.old nodes.old }
 {
     decode(4, payload, text, rows, nodes)
 }
 
-pub fn decode_ids(payload: &[u8], text: &mut [u8], rows: &mut [u64], nodes: &mut [u64]) -> Answer
+pub fn decode_ids(
+    payload: &[u8],
+    text: &mut [u8],
+    rows: &mut [u64],
+    nodes: &mut [u64],
+) -> Result<Message, Refusal>
     ensures { record { answer = result; text = text.new; rows = rows.new; nodes = nodes.new } ≡ decode_message 67108864 64 5 payload.now text.old rows.old nodes.old }
 {
     decode(5, payload, text, rows, nodes)
 }
 
-pub fn decode_types(payload: &[u8], text: &mut [u8], rows: &mut [u64], nodes: &mut [u64]) -> Answer
+pub fn decode_types(
+    payload: &[u8],
+    text: &mut [u8],
+    rows: &mut [u64],
+    nodes: &mut [u64],
+) -> Result<Message, Refusal>
     ensures { record { answer = result; text = text.new; rows = rows.new; nodes = nodes.new } ≡ decode_message 67108864 64 6 payload.now text.old rows.old nodes.old }
 {
     decode(6, payload, text, rows, nodes)
@@ -234,7 +232,7 @@ pub fn decode_control(
     text: &mut [u8],
     rows: &mut [u64],
     nodes: &mut [u64],
-) -> Answer
+) -> Result<Message, Refusal>
     ensures { record { answer = result; text = text.new; rows = rows.new; nodes = nodes.new } ≡ decode_message 67108864 64 7 payload.now text.old rows.old nodes.old }
 {
     decode(7, payload, text, rows, nodes)
@@ -245,7 +243,7 @@ pub fn decode_control_reply(
     text: &mut [u8],
     rows: &mut [u64],
     nodes: &mut [u64],
-) -> Answer
+) -> Result<Message, Refusal>
     ensures { record { answer = result; text = text.new; rows = rows.new; nodes = nodes.new } ≡ decode_message 67108864 64 8 payload.now text.old rows.old nodes.old }
 {
     decode(8, payload, text, rows, nodes)
@@ -256,19 +254,29 @@ pub fn decode_profile(
     text: &mut [u8],
     rows: &mut [u64],
     nodes: &mut [u64],
-) -> Answer
+) -> Result<Message, Refusal>
     ensures { record { answer = result; text = text.new; rows = rows.new; nodes = nodes.new } ≡ decode_message 67108864 64 9 payload.now text.old rows.old nodes.old }
 {
     decode(9, payload, text, rows, nodes)
 }
 
-pub fn decode_page(payload: &[u8], text: &mut [u8], rows: &mut [u64], nodes: &mut [u64]) -> Answer
+pub fn decode_page(
+    payload: &[u8],
+    text: &mut [u8],
+    rows: &mut [u64],
+    nodes: &mut [u64],
+) -> Result<Message, Refusal>
     ensures { record { answer = result; text = text.new; rows = rows.new; nodes = nodes.new } ≡ decode_message 67108864 64 10 payload.now text.old rows.old nodes.old }
 {
     decode(10, payload, text, rows, nodes)
 }
 
-pub fn decode_fetch(payload: &[u8], text: &mut [u8], rows: &mut [u64], nodes: &mut [u64]) -> Answer
+pub fn decode_fetch(
+    payload: &[u8],
+    text: &mut [u8],
+    rows: &mut [u64],
+    nodes: &mut [u64],
+) -> Result<Message, Refusal>
     ensures { record { answer = result; text = text.new; rows = rows.new; nodes = nodes.new } ≡ decode_message 67108864 64 11 payload.now text.old rows.old nodes.old }
 {
     decode(11, payload, text, rows, nodes)
@@ -279,7 +287,7 @@ pub fn decode_listing_digest(
     text: &mut [u8],
     rows: &mut [u64],
     nodes: &mut [u64],
-) -> Answer
+) -> Result<Message, Refusal>
     ensures { record { answer = result; text = text.new; rows = rows.new; nodes = nodes.new } ≡ decode_message 67108864 64 12 payload.now text.old rows.old nodes.old }
 {
     decode(12, payload, text, rows, nodes)

@@ -4,25 +4,19 @@ ghost use Rattle.protocol.specs.Codes.{mode_of, mode_byte, error_of, error_byte,
 ghost use Rattle.protocol.specs.Rows.{width_of};
 ghost use Rattle.protocol.specs.Startup.{spoken_version};
 
-use varint::error::Refusal;
+use varint::error::{Mismatch, Refusal};
 
-// How a session is opened.
+// How a session is opened. The number of a mode, a code or an op is its byte on the wire.
 #[derive(Clone, Copy)]
 pub enum Mode {
-    ReadOnly,
-    ReadWrite,
-}
-
-#[derive(Clone, Copy)]
-pub enum MaybeMode {
-    Known(Mode),
-    Unknown,
+    ReadOnly = 0,
+    ReadWrite = 1,
 }
 
 // What a server says went wrong.
 #[derive(Clone, Copy)]
 pub enum ErrorCode {
-    Protocol,
+    Protocol = 1,
     UnknownDatabase,
     SchemaMismatch,
     ModeRefused,
@@ -35,24 +29,12 @@ pub enum ErrorCode {
     Busy,
 }
 
-#[derive(Clone, Copy)]
-pub enum MaybeErrorCode {
-    Known(ErrorCode),
-    Unknown,
-}
-
 // Which operation of a database's life a control message asks for.
 #[derive(Clone, Copy)]
 pub enum ControlOp {
-    Create,
+    Create = 1,
     Finish,
     Remove,
-}
-
-#[derive(Clone, Copy)]
-pub enum MaybeControlOp {
-    Known(ControlOp),
-    Unknown,
 }
 
 // `len` bytes of the lent text from place `start` on.
@@ -60,13 +42,6 @@ pub enum MaybeControlOp {
 pub struct Span {
     pub start: u64,
     pub len: u64,
-}
-
-// The digest of a listing that a fetch may carry.
-#[derive(Clone, Copy)]
-pub enum Digest {
-    Absent,
-    Present(u64),
 }
 
 #[derive(Clone, Copy)]
@@ -83,7 +58,7 @@ pub enum ControlReply {
     Removed,
 }
 
-// A message of rows has their count; an opaque payload is one text.
+// A message of rows has their count; a fetch may carry the digest of a listing; an opaque payload is one text.
 #[derive(Clone, Copy)]
 pub enum Message {
     Startup {
@@ -128,7 +103,7 @@ pub enum Message {
         query: Span,
     },
     Fetch {
-        digest: Digest,
+        digest: Option<u64>,
         count: u64,
     },
     ListingDigest {
@@ -148,12 +123,6 @@ pub enum RowKind {
     Predicate,
     Step,
     Pair,
-}
-
-#[derive(Clone, Copy)]
-pub enum Answer {
-    Accepted(Message),
-    Refused(Refusal),
 }
 
 impl Message {
@@ -186,85 +155,78 @@ impl RowKind {
     }
 }
 
-impl Mode {
-    pub fn from_byte(byte: u8) -> MaybeMode
-        ensures { result ≡ mode_of byte }
-    {
-        match byte {
-            0 => MaybeMode::Known(Mode::ReadOnly),
-            1 => MaybeMode::Known(Mode::ReadWrite),
-            _ => MaybeMode::Unknown,
-        }
-    }
+impl TryFrom<u8> for Mode {
+    type Error = Refusal;
 
-    pub fn as_byte(self) -> u8
-        ensures { result ≡ mode_byte self }
-    {
-        match self {
-            Mode::ReadOnly => 0,
-            Mode::ReadWrite => 1,
+    ghost try_from_gives = { λ b r. r ≡ mode_of b };
+
+    fn try_from(byte: u8) -> Result<Mode, Refusal> {
+        match byte {
+            0 => Ok(Mode::ReadOnly),
+            1 => Ok(Mode::ReadWrite),
+            _ => Err(Refusal::TypeMismatch(Mismatch::Mode)),
         }
     }
 }
 
-impl ErrorCode {
-    pub fn from_byte(byte: u8) -> MaybeErrorCode
-        ensures { result ≡ error_of byte }
-    {
-        match byte {
-            1 => MaybeErrorCode::Known(ErrorCode::Protocol),
-            2 => MaybeErrorCode::Known(ErrorCode::UnknownDatabase),
-            3 => MaybeErrorCode::Known(ErrorCode::SchemaMismatch),
-            4 => MaybeErrorCode::Known(ErrorCode::ModeRefused),
-            5 => MaybeErrorCode::Known(ErrorCode::BadFacts),
-            6 => MaybeErrorCode::Known(ErrorCode::Conflict),
-            7 => MaybeErrorCode::Known(ErrorCode::BadQuery),
-            8 => MaybeErrorCode::Known(ErrorCode::Internal),
-            9 => MaybeErrorCode::Known(ErrorCode::InUse),
-            10 => MaybeErrorCode::Known(ErrorCode::Refused),
-            11 => MaybeErrorCode::Known(ErrorCode::Busy),
-            _ => MaybeErrorCode::Unknown,
-        }
-    }
+impl From<Mode> for u8 {
+    ghost from_gives = { λ m b. b ≡ mode_byte m };
 
-    pub fn as_byte(self) -> u8
-        ensures { result ≡ error_byte self }
-    {
-        match self {
-            ErrorCode::Protocol => 1,
-            ErrorCode::UnknownDatabase => 2,
-            ErrorCode::SchemaMismatch => 3,
-            ErrorCode::ModeRefused => 4,
-            ErrorCode::BadFacts => 5,
-            ErrorCode::Conflict => 6,
-            ErrorCode::BadQuery => 7,
-            ErrorCode::Internal => 8,
-            ErrorCode::InUse => 9,
-            ErrorCode::Refused => 10,
-            ErrorCode::Busy => 11,
+    fn from(mode: Mode) -> u8 {
+        mode as u8
+    }
+}
+
+impl TryFrom<u8> for ErrorCode {
+    type Error = Refusal;
+
+    ghost try_from_gives = { λ b r. r ≡ error_of b };
+
+    fn try_from(byte: u8) -> Result<ErrorCode, Refusal> {
+        match byte {
+            1 => Ok(ErrorCode::Protocol),
+            2 => Ok(ErrorCode::UnknownDatabase),
+            3 => Ok(ErrorCode::SchemaMismatch),
+            4 => Ok(ErrorCode::ModeRefused),
+            5 => Ok(ErrorCode::BadFacts),
+            6 => Ok(ErrorCode::Conflict),
+            7 => Ok(ErrorCode::BadQuery),
+            8 => Ok(ErrorCode::Internal),
+            9 => Ok(ErrorCode::InUse),
+            10 => Ok(ErrorCode::Refused),
+            11 => Ok(ErrorCode::Busy),
+            _ => Err(Refusal::TypeMismatch(Mismatch::ErrorCode)),
         }
     }
 }
 
-impl ControlOp {
-    pub fn from_byte(byte: u8) -> MaybeControlOp
-        ensures { result ≡ op_of byte }
-    {
+impl From<ErrorCode> for u8 {
+    ghost from_gives = { λ c b. b ≡ error_byte c };
+
+    fn from(code: ErrorCode) -> u8 {
+        code as u8
+    }
+}
+
+impl TryFrom<u8> for ControlOp {
+    type Error = Refusal;
+
+    ghost try_from_gives = { λ b r. r ≡ op_of b };
+
+    fn try_from(byte: u8) -> Result<ControlOp, Refusal> {
         match byte {
-            1 => MaybeControlOp::Known(ControlOp::Create),
-            2 => MaybeControlOp::Known(ControlOp::Finish),
-            3 => MaybeControlOp::Known(ControlOp::Remove),
-            _ => MaybeControlOp::Unknown,
+            1 => Ok(ControlOp::Create),
+            2 => Ok(ControlOp::Finish),
+            3 => Ok(ControlOp::Remove),
+            _ => Err(Refusal::TypeMismatch(Mismatch::ControlOp)),
         }
     }
+}
 
-    pub fn as_byte(self) -> u8
-        ensures { result ≡ op_byte self }
-    {
-        match self {
-            ControlOp::Create => 1,
-            ControlOp::Finish => 2,
-            ControlOp::Remove => 3,
-        }
+impl From<ControlOp> for u8 {
+    ghost from_gives = { λ o b. b ≡ op_byte o };
+
+    fn from(op: ControlOp) -> u8 {
+        op as u8
     }
 }

@@ -1,13 +1,11 @@
 // Reading whole messages, each as its layout says. In the reading that does not check, texts, rows and nodes are stored.
 ghost use Rattle.std.specs.Prelude.{◌≡◌, ◌-◌, ◌≤◌, ◌<◌, length, true, drop, ◌*◌};
 ghost use Rattle.varint.specs.declared.error.Refusal.TheVariants.{TrailingBytes};
-ghost use Rattle.protocol.specs.declared.read.Found.TheVariants as F;
 ghost use Rattle.varint.specs.Choice.{pick};
-ghost use Rattle.varint.specs.Formats.{got};
 ghost use Rattle.varint.specs.Runs.{end_of, values_of};
 ghost use Rattle.varint.specs.Utf8.{utf8};
 ghost use Rattle.desc.specs.Layout.{width};
-ghost use Rattle.protocol.specs.Inner.Loading.{stored, laid_as, ReadsBare, Reads, ReadsText, ReadsEntry, BareEntry, RoomyEntry, lay_finished, session, SessionRead};
+ghost use Rattle.protocol.specs.Inner.Loading.{found_with, stored, laid_as, ReadsBare, Reads, ReadsText, ReadsEntry, BareEntry, RoomyEntry, lay_finished, session, SessionRead};
 ghost use Rattle.protocol.specs.Wholes.{ended};
 ghost use Rattle.protocol.specs.declared.message.ControlOp.TheVariants.{Create};
 ghost use Rattle.protocol.specs.Complete.{read_complete, lay_complete};
@@ -24,38 +22,31 @@ ghost use Rattle.protocol.specs.Said.{read_entry, lay};
 ghost use Rattle.protocol.specs.Startup.{read_startup, lay_startup};
 ghost use Rattle.protocol.specs.Types.{read_types, lay_types};
 
-use crate::fields::{
-    Flag, ReadCode, ReadDigest, ReadFlag, ReadMode, ReadOp, read_code, read_digest, read_flag,
-    read_mode, read_name, read_op, read_text,
-};
-use crate::message::{ControlOp, ControlReply, Message, RowKind, Span};
+use crate::fields::{read_digest, read_flag, read_known, read_name, read_text};
+use crate::message::{ControlOp, ControlReply, ErrorCode, Message, Mode, RowKind, Span};
 use crate::rows::read_rows;
-use desc::Walked;
+use desc::node::WIDTH;
 use varint::error::{Mismatch, Refusal};
 use varint::fixed::{get_u32_le, get_u64_le};
-use varint::run::{Run, fill_run, skim_run};
+use varint::run::{fill_run, skim_run};
 use varint::store::copy_bytes;
-use varint::text::ReadText;
 use varint::utf8::is_utf8;
-use varint::{MAX_U32, Number, ReadU64, get_u64};
+use varint::{MAX_U32, get_u64};
 
 // A message, and how many bytes of text and numbers of rows and of nodes it takes.
 #[derive(Clone, Copy)]
-pub(crate) enum Found {
-    Read {
-        message: Message,
-        text: usize,
-        rows: usize,
-        nodes: usize,
-    },
-    Refused(Refusal),
+pub(crate) struct Found {
+    pub message: Message,
+    pub text: usize,
+    pub rows: usize,
+    pub nodes: usize,
 }
 
 // A message without texts, rows and nodes.
 fn plain(message: Message) -> Found
-    ensures { result ≡ F.Read message 0 0 0 }
+    ensures { result ≡ found_with message 0 0 0 }
 {
-    Found::Read {
+    Found {
         message,
         text: 0,
         rows: 0,
@@ -65,13 +56,23 @@ fn plain(message: Message) -> Found
 
 // A message with texts alone.
 fn worded(message: Message, text: usize) -> Found
-    ensures { result ≡ F.Read message text 0 0 }
+    ensures { result ≡ found_with message text 0 0 }
 {
-    Found::Read {
+    Found {
         message,
         text,
         rows: 0,
         nodes: 0,
+    }
+}
+
+// A text of `len` bytes from place `start` of the lent text on.
+fn span(start: usize, len: usize) -> Span
+    ensures { result ≡ record { start = start; len = len } }
+{
+    Span {
+        start: start as u64,
+        len: len as u64,
     }
 }
 
@@ -83,220 +84,142 @@ fn left_over(s: &[u8], at: usize) -> Refusal
     Refusal::TrailingBytes((s.len() - at) as u64)
 }
 
-pub(crate) fn read_ready(s: &[u8]) -> Found
+#[tactic(auto, unfolding(crate::specs::Ready::read_ready, crate::specs::Ready::lay_ready, crate::specs::Inner::Loading::bare))]
+pub(crate) fn read_ready(s: &[u8]) -> Result<Found, Refusal>
     ensures { ReadsBare (laid_as lay_ready (read_ready s.now)) result }
 {
-    let Number(version, p) = match get_u64(s, 0) {
-        ReadU64::Refused(e) => return Found::Refused(e),
-        ReadU64::Value { value, next } => Number(value, next),
-    };
-    let Number(fingerprint, q) = match get_u64(s, p) {
-        ReadU64::Refused(e) => return Found::Refused(e),
-        ReadU64::Value { value, next } => Number(value, next),
-    };
-    let Number(predicates, end) = match get_u64(s, q) {
-        ReadU64::Refused(e) => return Found::Refused(e),
-        ReadU64::Value { value, next } => Number(value, next),
-    };
+    let (version, p) = get_u64(s, 0)?;
+    let (fingerprint, q) = get_u64(s, p)?;
+    let (predicates, end) = get_u64(s, q)?;
     if end < s.len() {
-        return Found::Refused(left_over(s, end));
+        return Err(left_over(s, end));
     }
     if MAX_U32 < version {
-        return Found::Refused(Refusal::TypeMismatch(Mismatch::Version));
+        return Err(Refusal::TypeMismatch(Mismatch::Version));
     }
-    plain(Message::Ready {
+    Ok(plain(Message::Ready {
         version: version as u32,
         schema_fingerprint: fingerprint,
         predicates,
-    })
+    }))
 }
 
-pub(crate) fn read_complete(s: &[u8]) -> Found
+#[tactic(auto, unfolding(crate::specs::Complete::read_complete, crate::specs::Complete::lay_complete, crate::specs::Inner::Loading::bare))]
+pub(crate) fn read_complete(s: &[u8]) -> Result<Found, Refusal>
     ensures { ReadsBare (laid_as lay_complete (read_complete s.now)) result }
 {
-    let Number(first, p) = match get_u64(s, 0) {
-        ReadU64::Refused(e) => return Found::Refused(e),
-        ReadU64::Value { value, next } => Number(value, next),
-    };
-    let Number(second, end) = match get_u64(s, p) {
-        ReadU64::Refused(e) => return Found::Refused(e),
-        ReadU64::Value { value, next } => Number(value, next),
-    };
+    let (first, p) = get_u64(s, 0)?;
+    let (second, end) = get_u64(s, p)?;
     if end < s.len() {
-        return Found::Refused(left_over(s, end));
+        return Err(left_over(s, end));
     }
-    plain(Message::Complete { first, second })
+    Ok(plain(Message::Complete { first, second }))
 }
 
-pub(crate) fn read_listing_digest(s: &[u8]) -> Found
+#[tactic(auto, unfolding(crate::specs::Listing::read_listing, crate::specs::Listing::lay_listing, crate::specs::Inner::Loading::bare))]
+pub(crate) fn read_listing_digest(s: &[u8]) -> Result<Found, Refusal>
     ensures { ReadsBare (laid_as lay_listing (read_listing s.now)) result }
 {
-    let Number(predicate, p) = match get_u64(s, 0) {
-        ReadU64::Refused(e) => return Found::Refused(e),
-        ReadU64::Value { value, next } => Number(value, next),
-    };
+    let (predicate, p) = get_u64(s, 0)?;
     if MAX_U32 < predicate {
-        return Found::Refused(Refusal::BadListingPredicate(predicate));
+        return Err(Refusal::BadListingPredicate(predicate));
     }
-    let Number(digest, end) = match get_u64(s, p) {
-        ReadU64::Refused(e) => return Found::Refused(e),
-        ReadU64::Value { value, next } => Number(value, next),
-    };
+    let (digest, end) = get_u64(s, p)?;
     if end < s.len() {
-        return Found::Refused(left_over(s, end));
+        return Err(left_over(s, end));
     }
-    plain(Message::ListingDigest {
+    Ok(plain(Message::ListingDigest {
         predicate: predicate as u32,
         digest,
-    })
+    }))
 }
 
-pub(crate) fn read_error(s: &[u8], check: bool, text: &mut [u8]) -> Found
+#[tactic(auto, unfolding(crate::specs::Error::read_error, crate::specs::Inner::Loading::told, crate::specs::Inner::Loading::outcome))]
+pub(crate) fn read_error(s: &[u8], check: bool, text: &mut [u8]) -> Result<Found, Refusal>
     ensures { ReadsText check (laid_as lay_error (read_error check s.now)) text.old result text.new }
 {
-    match read_code(s, 0) {
-        ReadCode::Refused(e) => Found::Refused(e),
-        ReadCode::Code { code, next } => match read_text(s, next, check, text, 0) {
-            ReadText::Refused(e) => Found::Refused(e),
-            ReadText::Text {
-                start: _,
-                len,
-                next: _,
-            } => worded(
-                Message::Error {
-                    code,
-                    text: Span {
-                        start: 0,
-                        len: len as u64,
-                    },
-                },
-                len,
-            ),
-        },
-    }
+    let (code, p) = read_known::<ErrorCode>(s, 0, Mismatch::ErrorCode)?;
+    let (found, _) = read_text(s, p, check, text, 0)?;
+    let message = Message::Error {
+        code,
+        text: span(0, found.len),
+    };
+    Ok(worded(message, found.len))
 }
 
-pub(crate) fn read_control(s: &[u8], check: bool, text: &mut [u8]) -> Found
+#[tactic(auto, unfolding(crate::specs::Control::read_control, crate::specs::Inner::Loading::told, crate::specs::Inner::Loading::outcome))]
+pub(crate) fn read_control(s: &[u8], check: bool, text: &mut [u8]) -> Result<Found, Refusal>
     ensures { ReadsText check (laid_as lay_control (read_control check s.now)) text.old result text.new }
 {
-    match read_op(s, 0) {
-        ReadOp::Refused(e) => Found::Refused(e),
-        ReadOp::Op { op, next: p } => match read_name(s, p, check, text, 0) {
-            ReadText::Refused(e) => Found::Refused(e),
-            ReadText::Text {
-                start: _,
-                len,
-                next: q,
-            } => match read_flag(s, q, Mismatch::ControlFlag) {
-                ReadFlag::Refused(e) => Found::Refused(e),
-                ReadFlag::Flag { yes, next: r } => match read_text(s, r, check, text, len) {
-                    ReadText::Refused(e) => Found::Refused(e),
-                    ReadText::Text {
-                        start: _,
-                        len: size,
-                        next: end,
-                    } => {
-                        if end < s.len() {
-                            return Found::Refused(left_over(s, end));
-                        }
-                        worded(
-                            Message::Control {
-                                op,
-                                database: Span {
-                                    start: 0,
-                                    len: len as u64,
-                                },
-                                allow_zero_facts: yes,
-                                schema: Span {
-                                    start: len as u64,
-                                    len: size as u64,
-                                },
-                            },
-                            len + size,
-                        )
-                    }
-                },
-            },
-        },
+    let (op, p) = read_known::<ControlOp>(s, 0, Mismatch::ControlOp)?;
+    let (database, q) = read_name(s, p, check, text, 0)?;
+    let (yes, r) = read_flag(s, q, Mismatch::ControlFlag)?;
+    let (schema, end) = read_text(s, r, check, text, database.len)?;
+    if end < s.len() {
+        return Err(left_over(s, end));
     }
+    let message = Message::Control {
+        op,
+        database: span(0, database.len),
+        allow_zero_facts: yes,
+        schema: span(database.len, schema.len),
+    };
+    Ok(worded(message, database.len + schema.len))
 }
 
-fn read_created(s: &[u8], at: usize, check: bool, text: &mut [u8]) -> Found
+#[tactic(auto, unfolding(crate::specs::Inner::Loading::told, crate::specs::Inner::Loading::outcome))]
+fn read_created(s: &[u8], at: usize, check: bool, text: &mut [u8]) -> Result<Found, Refusal>
     ensures { ReadsText check (laid_as lay_reply (ended s.now (reply_on check Create s.now at))) text.old result text.new }
 {
-    match read_name(s, at, check, text, 0) {
-        ReadText::Refused(e) => Found::Refused(e),
-        ReadText::Text {
-            start: _,
-            len,
-            next: end,
-        } => {
-            if end < s.len() {
-                return Found::Refused(left_over(s, end));
-            }
-            worded(
-                Message::Reply(ControlReply::Created {
-                    instance: Span {
-                        start: 0,
-                        len: len as u64,
-                    },
-                }),
-                len,
-            )
-        }
+    let (found, end) = read_name(s, at, check, text, 0)?;
+    if end < s.len() {
+        return Err(left_over(s, end));
     }
+    let reply = ControlReply::Created {
+        instance: span(0, found.len),
+    };
+    Ok(worded(Message::Reply(reply), found.len))
 }
 
-fn read_finished(s: &[u8], at: usize) -> Found
+#[tactic(auto, unfolding(crate::specs::Reply::lay_reply, crate::specs::Inner::Loading::bare))]
+fn read_finished(s: &[u8], at: usize) -> Result<Found, Refusal>
     ensures { ReadsBare (laid_as lay_finished (ended s.now (finish.read s.now at))) result }
 {
-    let Number(fingerprint, p) = match get_u64(s, at) {
-        ReadU64::Refused(e) => return Found::Refused(e),
-        ReadU64::Value { value, next } => Number(value, next),
-    };
-    let Number(facts, q) = match get_u64(s, p) {
-        ReadU64::Refused(e) => return Found::Refused(e),
-        ReadU64::Value { value, next } => Number(value, next),
-    };
-    let Number(bytes, r) = match get_u64(s, q) {
-        ReadU64::Refused(e) => return Found::Refused(e),
-        ReadU64::Value { value, next } => Number(value, next),
-    };
-    let Flag(yes, end) = match read_flag(s, r, Mismatch::AlreadyComplete) {
-        ReadFlag::Refused(e) => return Found::Refused(e),
-        ReadFlag::Flag { yes, next } => Flag(yes, next),
-    };
+    let (fingerprint, p) = get_u64(s, at)?;
+    let (facts, q) = get_u64(s, p)?;
+    let (bytes, r) = get_u64(s, q)?;
+    let (yes, end) = read_flag(s, r, Mismatch::AlreadyComplete)?;
     if end < s.len() {
-        return Found::Refused(left_over(s, end));
+        return Err(left_over(s, end));
     }
-    plain(Message::Reply(ControlReply::Finished {
+    Ok(plain(Message::Reply(ControlReply::Finished {
         fingerprint,
         facts,
         bytes,
         already_complete: yes,
-    }))
+    })))
 }
 
-fn read_removed(s: &[u8], at: usize) -> Found
+#[tactic(auto, unfolding(crate::specs::Reply::lay_reply, crate::specs::Inner::Loading::bare))]
+fn read_removed(s: &[u8], at: usize) -> Result<Found, Refusal>
     requires { at ≤ length s.now }
-    ensures { ReadsBare (laid_as lay_reply (ended s.now (got removed at))) result }
+    ensures { ReadsBare (laid_as lay_reply (ended s.now (Ok (removed, at)))) result }
 {
     if at < s.len() {
-        return Found::Refused(left_over(s, at));
+        return Err(left_over(s, at));
     }
-    plain(Message::Reply(ControlReply::Removed))
+    Ok(plain(Message::Reply(ControlReply::Removed)))
 }
 
-pub(crate) fn read_control_reply(s: &[u8], check: bool, text: &mut [u8]) -> Found
+#[tactic(auto, unfolding(crate::specs::Reply::read_reply, crate::specs::Inner::Loading::told, crate::specs::Inner::Loading::outcome))]
+pub(crate) fn read_control_reply(s: &[u8], check: bool, text: &mut [u8]) -> Result<Found, Refusal>
     ensures { ReadsText check (laid_as lay_reply (read_reply check s.now)) text.old result text.new }
 {
-    match read_op(s, 0) {
-        ReadOp::Refused(e) => Found::Refused(e),
-        ReadOp::Op { op, next } => match op {
-            ControlOp::Create => read_created(s, next, check, text),
-            ControlOp::Finish => read_finished(s, next),
-            ControlOp::Remove => read_removed(s, next),
-        },
+    let (op, next) = read_known::<ControlOp>(s, 0, Mismatch::ControlOp)?;
+    match op {
+        ControlOp::Create => read_created(s, next, check, text),
+        ControlOp::Finish => read_finished(s, next),
+        ControlOp::Remove => read_removed(s, next),
     }
 }
 
@@ -311,6 +234,7 @@ fn rest_good(s: &[u8], at: usize, check: bool) -> bool
     true
 }
 
+#[tactic(auto, using(crate::proofs::RowStores::part_rest))]
 fn keep_rest(s: &[u8], at: usize, check: bool, text: &mut [u8])
     requires { at ≤ length s.now }
     ensures { text.new ≡ stored check text.old 0 (drop at s.now) }
@@ -322,59 +246,44 @@ fn keep_rest(s: &[u8], at: usize, check: bool, text: &mut [u8])
 }
 
 // The cursor and the query behind it stand in the payload as they do in text, so they are copied at once.
-pub(crate) fn read_page(s: &[u8], check: bool, text: &mut [u8]) -> Found
+#[tactic(auto, unfolding(crate::specs::Page::read_page, crate::specs::Inner::Loading::told, crate::specs::Inner::Loading::outcome))]
+pub(crate) fn read_page(s: &[u8], check: bool, text: &mut [u8]) -> Result<Found, Refusal>
     ensures { ReadsText check (laid_as lay_page (read_page check s.now)) text.old result text.new }
 {
-    match get_u64_le(s, 0) {
-        ReadU64::Refused(e) => Found::Refused(e),
-        ReadU64::Value {
-            value: limit,
-            next: p,
-        } => match get_u32_le(s, p) {
-            ReadU64::Refused(e) => Found::Refused(e),
-            ReadU64::Value {
-                value: len,
-                next: q,
-            } => {
-                if ((s.len() - q) as u64) < len {
-                    return Found::Refused(Refusal::UnexpectedEof);
-                }
-                let end = q + len as usize;
-                if rest_good(s, end, check) {
-                    keep_rest(s, q, check, text);
-                    return worded(
-                        Message::Page {
-                            limit,
-                            cursor: Span { start: 0, len },
-                            query: Span {
-                                start: len,
-                                len: (s.len() - end) as u64,
-                            },
-                        },
-                        s.len() - q,
-                    );
-                }
-                Found::Refused(Refusal::BadString)
-            }
-        },
+    let (limit, p) = get_u64_le(s, 0)?;
+    let (len, q) = get_u32_le(s, p)?;
+    if ((s.len() - q) as u64) < len {
+        return Err(Refusal::UnexpectedEof);
     }
+    let size = len as usize;
+    let end = q + size;
+    if !rest_good(s, end, check) {
+        return Err(Refusal::BadString);
+    }
+    keep_rest(s, q, check, text);
+    let message = Message::Page {
+        limit,
+        cursor: span(0, size),
+        query: span(size, s.len() - end),
+    };
+    Ok(worded(message, s.len() - q))
 }
 
 // A message with rows, which took t bytes of text, r numbers of rows and n nodes.
 fn rowed(message: Message, t: usize, r: usize, n: usize) -> Found
     requires { n ≤ 4294967296 }
-    ensures { result ≡ F.Read message t r (n * width) }
+    ensures { result ≡ found_with message t r (n * width) }
 {
-    Found::Read {
+    Found {
         message,
         text: t,
         rows: r,
-        nodes: n * 7,
+        nodes: n * WIDTH,
     }
 }
 
 // The `count` ids from place `at` on: the reading that checks passes them, and the other stores them.
-fn run_ids(s: &[u8], at: usize, count: u64, check: bool, rows: &mut [u64]) -> Run
+fn run_ids(s: &[u8], at: usize, count: u64, check: bool, rows: &mut [u64]) -> Result<usize, Refusal>
     ensures { (result ≡ end_of count s.now at) × (rows.new ≡ stored check rows.old 0 (values_of count s.now at)) }
 {
     if check {
@@ -383,26 +292,23 @@ fn run_ids(s: &[u8], at: usize, count: u64, check: bool, rows: &mut [u64]) -> Ru
     fill_run(s, at, count, rows)
 }
 
+#[tactic(auto, using(crate::proofs::RowMessages::no_ids), unfolding(crate::specs::Ids::read_ids, crate::specs::Inner::Loading::told, crate::specs::Inner::Loading::outcome))]
 pub(crate) fn read_ids(
     s: &[u8],
     check: bool,
     text: &mut [u8],
     rows: &mut [u64],
     nodes: &mut [u64],
-) -> Found
+) -> Result<Found, Refusal>
     requires { length s.now ≤ 4294967296 }
     ensures { Reads check (laid_as lay_ids (read_ids s.now)) text.old rows.old nodes.old result text.new rows.new nodes.new }
 {
-    let Number(count, p) = match get_u64(s, 0) {
-        ReadU64::Refused(e) => return Found::Refused(e),
-        ReadU64::Value { value, next } => Number(value, next),
-    };
-    match run_ids(s, p, count, check, rows) {
-        Run::Refused(e) => Found::Refused(e),
-        Run::Next(_) => rowed(Message::Ids { count }, 0, count as usize, 0),
-    }
+    let (count, p) = get_u64(s, 0)?;
+    run_ids(s, p, count, check, rows)?;
+    Ok(rowed(Message::Ids { count }, 0, count as usize, 0))
 }
 
+#[tactic(auto, using(crate::proofs::RowMessages::no_types, varint::proofs::FormatParts::num_inside), unfolding(crate::specs::Types::read_types, crate::specs::Inner::Loading::told, crate::specs::Inner::Loading::outcome, crate::specs::Inner::Loading::Within))]
 pub(crate) fn read_types(
     s: &[u8],
     check: bool,
@@ -410,120 +316,73 @@ pub(crate) fn read_types(
     text: &mut [u8],
     rows: &mut [u64],
     nodes: &mut [u64],
-) -> Found
+) -> Result<Found, Refusal>
     requires { length s.now ≤ 4294967296 }
     ensures { Reads check (laid_as lay_types (read_types check limit s.now)) text.old rows.old nodes.old result text.new rows.new nodes.new }
 {
-    match get_u64(s, 0) {
-        ReadU64::Refused(e) => Found::Refused(e),
-        ReadU64::Value {
-            value: count,
-            next: p,
-        } => match read_rows(
-            RowKind::Predicate,
-            count,
-            s,
-            p,
-            check,
-            limit,
-            text,
-            0,
-            rows,
-            nodes,
-        ) {
-            Walked::Refused(e) => Found::Refused(e),
-            Walked::Read {
-                next: _,
-                text: t,
-                nodes: n,
-            } => rowed(Message::Types { count }, t, (count * 6) as usize, n),
-        },
-    }
+    let kind = RowKind::Predicate;
+    let (count, p) = get_u64(s, 0)?;
+    let past = read_rows(kind, count, s, p, check, limit, text, 0, rows, nodes)?;
+    let numbers = (count * 6) as usize;
+    Ok(rowed(Message::Types { count }, past.text, numbers, past.nodes))
 }
 
+#[tactic(auto, using(varint::proofs::FormatParts::num_inside), unfolding(crate::specs::Profile::read_profile, crate::specs::Inner::Loading::told, crate::specs::Inner::Loading::outcome, crate::specs::Inner::Loading::Within))]
 pub(crate) fn read_profile(
     s: &[u8],
     check: bool,
     text: &mut [u8],
     rows: &mut [u64],
     nodes: &mut [u64],
-) -> Found
+) -> Result<Found, Refusal>
     requires { length s.now ≤ 4294967296 }
     ensures { Reads check (laid_as lay_profile (read_profile check s.now)) text.old rows.old nodes.old result text.new rows.new nodes.new }
 {
-    match get_u64(s, 0) {
-        ReadU64::Refused(e) => Found::Refused(e),
-        ReadU64::Value {
-            value: steps,
-            next: p,
-        } => {
-            let length = s.len() as u64;
-            if length < steps {
-                return Found::Refused(Refusal::LengthOutOfRange {
-                    declared: steps,
-                    available: length,
-                });
-            }
-            match read_rows(RowKind::Step, steps, s, p, check, 0, text, 0, rows, nodes) {
-                Walked::Refused(e) => Found::Refused(e),
-                Walked::Read {
-                    next: end,
-                    text: t,
-                    nodes: n,
-                } => {
-                    if end < s.len() {
-                        return Found::Refused(left_over(s, end));
-                    }
-                    rowed(Message::Profile { steps }, t, (steps * 4) as usize, n)
-                }
-            }
-        }
+    let (steps, p) = get_u64(s, 0)?;
+    let length = s.len() as u64;
+    if length < steps {
+        return Err(Refusal::LengthOutOfRange {
+            declared: steps,
+            available: length,
+        });
     }
+    let past = read_rows(RowKind::Step, steps, s, p, check, 0, text, 0, rows, nodes)?;
+    if past.next < s.len() {
+        return Err(left_over(s, past.next));
+    }
+    let numbers = (steps * 4) as usize;
+    Ok(rowed(Message::Profile { steps }, past.text, numbers, past.nodes))
 }
 
+#[tactic(auto, using(varint::proofs::FormatParts::num_inside), unfolding(crate::specs::Fetch::read_fetch, crate::specs::Inner::Loading::told, crate::specs::Inner::Loading::outcome, crate::specs::Inner::Loading::Within))]
 pub(crate) fn read_fetch(
     s: &[u8],
     check: bool,
     text: &mut [u8],
     rows: &mut [u64],
     nodes: &mut [u64],
-) -> Found
+) -> Result<Found, Refusal>
     requires { length s.now ≤ 4294967296 }
     ensures { Reads check (laid_as lay_fetch (read_fetch s.now)) text.old rows.old nodes.old result text.new rows.new nodes.new }
 {
-    match read_digest(s, 0) {
-        ReadDigest::Refused(e) => Found::Refused(e),
-        ReadDigest::Digest { digest, next } => match get_u64(s, next) {
-            ReadU64::Refused(e) => Found::Refused(e),
-            ReadU64::Value {
-                value: count,
-                next: p,
-            } => {
-                if Message::MAX_FETCH < count {
-                    return Found::Refused(Refusal::BlockTooLarge {
-                        declared: count,
-                        max: Message::MAX_FETCH,
-                    });
-                }
-                match read_rows(RowKind::Pair, count, s, p, check, 0, text, 0, rows, nodes) {
-                    Walked::Refused(e) => Found::Refused(e),
-                    Walked::Read {
-                        next: end,
-                        text: t,
-                        nodes: n,
-                    } => {
-                        if end < s.len() {
-                            return Found::Refused(left_over(s, end));
-                        }
-                        rowed(Message::Fetch { digest, count }, t, count as usize, n)
-                    }
-                }
-            }
-        },
+    let (digest, next) = read_digest(s, 0)?;
+    let (count, p) = get_u64(s, next)?;
+    if Message::MAX_FETCH < count {
+        return Err(Refusal::BlockTooLarge {
+            declared: count,
+            max: Message::MAX_FETCH,
+        });
     }
+    let past = read_rows(RowKind::Pair, count, s, p, check, 0, text, 0, rows, nodes)?;
+    if past.next < s.len() {
+        return Err(left_over(s, past.next));
+    }
+    let message = Message::Fetch { digest, count };
+    Ok(rowed(message, past.text, count as usize, past.nodes))
 }
 
 // What follows the version and the database of a startup; `len` bytes of text are taken.
+#[tactic(auto, using(varint::proofs::FormatParts::num_inside), unfolding(crate::specs::Inner::Loading::told, crate::specs::Inner::Loading::session_outcome, crate::specs::Inner::Loading::Within))]
 fn read_session(
     s: &[u8],
     at: usize,
@@ -533,96 +392,60 @@ fn read_session(
     text: &mut [u8],
     rows: &mut [u64],
     nodes: &mut [u64],
-) -> Found
+) -> Result<Found, Refusal>
     requires { (len ≤ at) × (at ≤ length s.now) × (length s.now ≤ 4294967296) }
     ensures { SessionRead check version len (ended s.now ((session check).read s.now at)) text.old rows.old nodes.old result text.new rows.new nodes.new }
 {
-    match read_mode(s, at) {
-        ReadMode::Refused(e) => Found::Refused(e),
-        ReadMode::Mode { mode, next: p } => match get_u64(s, p) {
-            ReadU64::Refused(e) => Found::Refused(e),
-            ReadU64::Value {
-                value: fingerprint,
-                next: q,
-            } => match get_u64(s, q) {
-                ReadU64::Refused(e) => Found::Refused(e),
-                ReadU64::Value {
-                    value: claims,
-                    next: r,
-                } => match read_rows(
-                    RowKind::Claim,
-                    claims,
-                    s,
-                    r,
-                    check,
-                    0,
-                    text,
-                    len,
-                    rows,
-                    nodes,
-                ) {
-                    Walked::Refused(e) => Found::Refused(e),
-                    Walked::Read {
-                        next: end,
-                        text: t,
-                        nodes: n,
-                    } => {
-                        if end < s.len() {
-                            return Found::Refused(left_over(s, end));
-                        }
-                        if 0xFFFF_FFFF < version {
-                            return Found::Refused(Refusal::TypeMismatch(Mismatch::Version));
-                        }
-                        rowed(
-                            Message::Startup {
-                                version: version as u32,
-                                database: Span {
-                                    start: 0,
-                                    len: len as u64,
-                                },
-                                mode,
-                                schema_fingerprint: fingerprint,
-                                claims,
-                            },
-                            t,
-                            (claims * 3) as usize,
-                            n,
-                        )
-                    }
-                },
-            },
-        },
+    let (mode, p) = read_known::<Mode>(s, at, Mismatch::Mode)?;
+    let (fingerprint, q) = get_u64(s, p)?;
+    let (claims, r) = get_u64(s, q)?;
+    let past = read_rows(
+        RowKind::Claim,
+        claims,
+        s,
+        r,
+        check,
+        0,
+        text,
+        len,
+        rows,
+        nodes,
+    )?;
+    if past.next < s.len() {
+        return Err(left_over(s, past.next));
     }
+    if MAX_U32 < version {
+        return Err(Refusal::TypeMismatch(Mismatch::Version));
+    }
+    let message = Message::Startup {
+        version: version as u32,
+        database: span(0, len),
+        mode,
+        schema_fingerprint: fingerprint,
+        claims,
+    };
+    let numbers = (claims * 3) as usize;
+    Ok(rowed(message, past.text, numbers, past.nodes))
 }
 
+#[tactic(auto, unfolding(crate::specs::Startup::read_startup, crate::specs::Inner::Loading::told, crate::specs::Inner::Loading::outcome))]
 pub(crate) fn read_startup(
     s: &[u8],
     check: bool,
     text: &mut [u8],
     rows: &mut [u64],
     nodes: &mut [u64],
-) -> Found
+) -> Result<Found, Refusal>
     requires { length s.now ≤ 4294967296 }
     ensures { Reads check (laid_as lay_startup (read_startup check s.now)) text.old rows.old nodes.old result text.new rows.new nodes.new }
 {
-    match get_u64(s, 0) {
-        ReadU64::Refused(e) => Found::Refused(e),
-        ReadU64::Value {
-            value: version,
-            next: p,
-        } => match read_name(s, p, check, text, 0) {
-            ReadText::Refused(e) => Found::Refused(e),
-            ReadText::Text {
-                start: _,
-                len,
-                next: q,
-            } => read_session(s, q, version, len, check, text, rows, nodes),
-        },
-    }
+    let (version, p) = get_u64(s, 0)?;
+    let (database, q) = read_name(s, p, check, text, 0)?;
+    read_session(s, q, version, database.len, check, text, rows, nodes)
 }
 
 // Message `entry` of a payload, one of those that have numbers alone.
-pub(crate) fn read_bare(entry: u8, s: &[u8]) -> Found
+pub(crate) fn read_bare(entry: u8, s: &[u8]) -> Result<Found, Refusal>
     requires { BareEntry entry }
     ensures { ReadsEntry entry s.now result }
 {
@@ -634,6 +457,7 @@ pub(crate) fn read_bare(entry: u8, s: &[u8]) -> Found
 }
 
 // Message `entry` of a payload, one of the others.
+#[tactic(auto, unfolding(crate::specs::Said::read_entry, crate::specs::Said::lay))]
 pub(crate) fn read_message(
     entry: u8,
     s: &[u8],
@@ -642,7 +466,7 @@ pub(crate) fn read_message(
     text: &mut [u8],
     rows: &mut [u64],
     nodes: &mut [u64],
-) -> Found
+) -> Result<Found, Refusal>
     requires { RoomyEntry entry × (length s.now ≤ 4294967296) }
     ensures { Reads check (laid_as lay (read_entry check limit entry s.now)) text.old rows.old nodes.old result text.new rows.new nodes.new }
 {

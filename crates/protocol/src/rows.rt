@@ -14,29 +14,21 @@ ghost use Rattle.protocol.specs.Rows.{width_of};
 ghost use Rattle.protocol.specs.Startup.{claim, claim_width, lay_claim};
 ghost use Rattle.protocol.specs.Types.{predicate, type_width, lay_predicate, lay_value};
 
-use crate::fields::{ReadFlag, read_flag, read_name, read_wide_flag};
+use crate::fields::{read_flag, read_name, read_wide_flag};
 use crate::message::RowKind;
 use desc::{Walked, fill_desc, measure_desc};
 use varint::error::{Mismatch, Refusal};
-use varint::store::store_number;
-use varint::text::ReadText;
-use varint::{ReadU64, get_u64};
+use varint::store::store;
+use varint::{MAX_U32, get_u64};
 
 // A fact's id is its type's, of 24 bits, before its sequence, of 40 bits.
 const SEQUENCE_BITS: u32 = 40;
 
 // The places past a row without nodes: in the bytes and in the text.
 #[derive(Clone, Copy)]
-pub(crate) enum Flat {
-    Read { next: usize, text: usize },
-    Refused(Refusal),
-}
-
-// A flag as it stands in a row.
-fn flag_number(yes: bool) -> u64
-    ensures { result ≡ bit yes }
-{
-    if yes { 1 } else { 0 }
+pub(crate) struct Flat {
+    pub next: usize,
+    pub text: usize,
 }
 
 fn store_one(check: bool, rows: &mut [u64], r: usize, a: u64)
@@ -45,7 +37,7 @@ fn store_one(check: bool, rows: &mut [u64], r: usize, a: u64)
     if check {
         return;
     }
-    store_number(rows, r, a);
+    store(rows, r, a);
 }
 
 fn store_three(check: bool, rows: &mut [u64], r: usize, a: u64, b: u64, c: u64)
@@ -57,9 +49,9 @@ fn store_three(check: bool, rows: &mut [u64], r: usize, a: u64, b: u64, c: u64)
     if rows.len() <= r {
         return;
     }
-    store_number(rows, r, a);
-    store_number(rows, r + 1, b);
-    store_number(rows, r + 2, c);
+    store(rows, r, a);
+    store(rows, r + 1, b);
+    store(rows, r + 2, c);
 }
 
 fn store_step(
@@ -77,7 +69,7 @@ fn store_step(
         return;
     }
     store_three(check, rows, r, start, len, examined);
-    store_one(check, rows, r + 3, flag_number(full));
+    store_one(check, rows, r + 3, u64::from(full));
 }
 
 fn read_claim(
@@ -88,30 +80,17 @@ fn read_claim(
     t: usize,
     rows: &mut [u64],
     r: usize,
-) -> Flat
+) -> Result<Flat, Refusal>
     requires { t ≤ at }
     ensures { LoadsFlat check lay_claim ((claim check).read s.now at) text.old t rows.old r claim_width result text.new rows.new }
 {
-    match read_name(s, at, check, text, t) {
-        ReadText::Refused(e) => Flat::Refused(e),
-        ReadText::Text {
-            start: _,
-            len,
-            next,
-        } => match get_u64(s, next) {
-            ReadU64::Refused(e) => Flat::Refused(e),
-            ReadU64::Value {
-                value: fingerprint,
-                next: end,
-            } => {
-                store_three(check, rows, r, t as u64, len as u64, fingerprint);
-                Flat::Read {
-                    next: end,
-                    text: t + len,
-                }
-            }
-        },
-    }
+    let (name, p) = read_name(s, at, check, text, t)?;
+    let (fingerprint, next) = get_u64(s, p)?;
+    store_three(check, rows, r, t as u64, name.len as u64, fingerprint);
+    Ok(Flat {
+        next,
+        text: t + name.len,
+    })
 }
 
 fn read_step(
@@ -122,33 +101,18 @@ fn read_step(
     t: usize,
     rows: &mut [u64],
     r: usize,
-) -> Flat
+) -> Result<Flat, Refusal>
     requires { t ≤ at }
     ensures { LoadsFlat check lay_step ((step check).read s.now at) text.old t rows.old r step_width result text.new rows.new }
 {
-    match read_name(s, at, check, text, t) {
-        ReadText::Refused(e) => Flat::Refused(e),
-        ReadText::Text {
-            start: _,
-            len,
-            next,
-        } => match get_u64(s, next) {
-            ReadU64::Refused(e) => Flat::Refused(e),
-            ReadU64::Value {
-                value: examined,
-                next: p,
-            } => match read_flag(s, p, Mismatch::FullScan) {
-                ReadFlag::Refused(e) => Flat::Refused(e),
-                ReadFlag::Flag { yes, next: end } => {
-                    store_step(check, rows, r, t as u64, len as u64, examined, yes);
-                    Flat::Read {
-                        next: end,
-                        text: t + len,
-                    }
-                }
-            },
-        },
-    }
+    let (name, p) = read_name(s, at, check, text, t)?;
+    let (examined, q) = get_u64(s, p)?;
+    let (full, next) = read_flag(s, q, Mismatch::FullScan)?;
+    store_step(check, rows, r, t as u64, name.len as u64, examined, full);
+    Ok(Flat {
+        next,
+        text: t + name.len,
+    })
 }
 
 // The size of a descriptor, whose names are checked; or it is stored, its texts from place t of text on, its nodes from node n on.
@@ -161,7 +125,7 @@ fn find_desc(
     t: usize,
     nodes: &mut [u64],
     n: usize,
-) -> Walked
+) -> Result<Walked, Refusal>
     requires { t + n ≤ at }
     ensures { (result ≡ measured (desc check limit limit s.now at)) × (record { text = text.new; nodes = nodes.new } ≡ desc_left check (desc check limit limit s.now at) text.old t nodes.old n) }
 {
@@ -181,22 +145,16 @@ fn read_desc(
     t: usize,
     nodes: &mut [u64],
     n: usize,
-) -> Walked
+) -> Result<Walked, Refusal>
     requires { (t + n ≤ at) × (at ≤ length s.now) }
     ensures { LoadsNodes check tree (desc check limit limit s.now at) text.old t nodes.old n result text.new nodes.new × Within s.now 0 result }
 {
-    match find_desc(s, at, check, limit, text, t, nodes, n) {
-        Walked::Refused(e) => Walked::Refused(e),
-        Walked::Read {
-            next,
-            text: size,
-            nodes: count,
-        } => Walked::Read {
-            next,
-            text: t + size,
-            nodes: n + count,
-        },
-    }
+    let found = find_desc(s, at, check, limit, text, t, nodes, n)?;
+    Ok(Walked {
+        next: found.next,
+        text: t + found.text,
+        nodes: n + found.nodes,
+    })
 }
 
 // The same of a type's value, where it has one.
@@ -210,18 +168,18 @@ fn read_value(
     t: usize,
     nodes: &mut [u64],
     n: usize,
-) -> Walked
+) -> Result<Walked, Refusal>
     requires { (t + n ≤ at) × (at ≤ length s.now) }
     ensures { LoadsNodes check lay_value (optional_on (descriptor check limit) has s.now at) text.old t nodes.old n result text.new nodes.new }
 {
     if has {
         return read_desc(s, at, check, limit, text, t, nodes, n);
     }
-    Walked::Read {
+    Ok(Walked {
         next: at,
         text: t,
         nodes: n,
-    }
+    })
 }
 
 // What follows a type's name: virtual, key, has value, value. The key's root is node n.
@@ -236,32 +194,17 @@ fn read_sides(
     r: usize,
     nodes: &mut [u64],
     n: usize,
-) -> Walked
+) -> Result<Walked, Refusal>
     requires { (t + n ≤ at) × (at ≤ length s.now) }
     ensures { told_row (r + 3) result text.new rows.new nodes.new ≡ load check lay_sides ((sides check limit).read s.now at) (record { text = text.old; t = t; rows = rows.old; r = r; nodes = nodes.old; n = n }) }
 {
-    match read_wide_flag(s, at) {
-        ReadFlag::Refused(e) => Walked::Refused(e),
-        ReadFlag::Flag {
-            yes: is_virtual,
-            next: p,
-        } => match read_desc(s, p, check, limit, text, t, nodes, n) {
-            Walked::Refused(e) => Walked::Refused(e),
-            Walked::Read {
-                next: q,
-                text: u,
-                nodes: m,
-            } => match read_wide_flag(s, q) {
-                ReadFlag::Refused(e) => Walked::Refused(e),
-                ReadFlag::Flag { yes: has, next: k } => {
-                    let first = flag_number(is_virtual);
-                    let second = flag_number(has);
-                    store_three(check, rows, r, first, second, n as u64);
-                    read_value(s, k, check, limit, has, text, u, nodes, m)
-                }
-            },
-        },
-    }
+    let (is_virtual, p) = read_wide_flag(s, at)?;
+    let key = read_desc(s, p, check, limit, text, t, nodes, n)?;
+    let (has, q) = read_wide_flag(s, key.next)?;
+    let first = u64::from(is_virtual);
+    let second = u64::from(has);
+    store_three(check, rows, r, first, second, n as u64);
+    read_value(s, q, check, limit, has, text, key.text, nodes, key.nodes)
 }
 
 fn read_type(
@@ -275,42 +218,44 @@ fn read_type(
     r: usize,
     nodes: &mut [u64],
     n: usize,
-) -> Walked
+) -> Result<Walked, Refusal>
     requires { (t + n ≤ at) × (at ≤ length s.now) × (r ≤ 2 * at) }
     ensures { told_row (r + type_width) result text.new rows.new nodes.new ≡ load check lay_predicate ((predicate check limit).read s.now at) (record { text = text.old; t = t; rows = rows.old; r = r; nodes = nodes.old; n = n }) }
 {
-    match get_u64(s, at) {
-        ReadU64::Refused(e) => Walked::Refused(e),
-        ReadU64::Value { value: id, next: p } => {
-            if 0xFFFF_FFFF < id {
-                return Walked::Refused(Refusal::UnknownPredicate);
-            }
-            match read_name(s, p, check, text, t) {
-                ReadText::Refused(e) => Walked::Refused(e),
-                ReadText::Text {
-                    start: _,
-                    len,
-                    next: q,
-                } => {
-                    store_three(check, rows, r, id, t as u64, len as u64);
-                    read_sides(s, q, check, limit, text, t + len, rows, r + 3, nodes, n)
-                }
-            }
-        }
+    let (id, p) = get_u64(s, at)?;
+    if MAX_U32 < id {
+        return Err(Refusal::UnknownPredicate);
     }
+    let (name, q) = read_name(s, p, check, text, t)?;
+    store_three(check, rows, r, id, t as u64, name.len as u64);
+    read_sides(
+        s,
+        q,
+        check,
+        limit,
+        text,
+        t + name.len,
+        rows,
+        r + 3,
+        nodes,
+        n,
+    )
 }
 
 // An id, and so a pair of a fetch, is a row of one number.
-fn read_id(s: &[u8], at: usize, check: bool, t: usize, rows: &mut [u64], r: usize) -> Flat
+fn read_id(
+    s: &[u8],
+    at: usize,
+    check: bool,
+    t: usize,
+    rows: &mut [u64],
+    r: usize,
+) -> Result<Flat, Refusal>
     ensures { LoadsCells check lay_id (varint.read s.now at) t rows.old r id_width result rows.new }
 {
-    match get_u64(s, at) {
-        ReadU64::Refused(e) => Flat::Refused(e),
-        ReadU64::Value { value: id, next } => {
-            store_one(check, rows, r, id);
-            Flat::Read { next, text: t }
-        }
-    }
+    let (id, next) = get_u64(s, at)?;
+    store_one(check, rows, r, id);
+    Ok(Flat { next, text: t })
 }
 
 // The refusal of a pair that is no fact's id.
@@ -321,47 +266,40 @@ fn bad_fact(predicate: u64, sequence: u64) -> Refusal
 }
 
 // Both halves are read before either is looked at.
-fn read_pair(s: &[u8], at: usize, check: bool, t: usize, rows: &mut [u64], r: usize) -> Flat
+fn read_pair(
+    s: &[u8],
+    at: usize,
+    check: bool,
+    t: usize,
+    rows: &mut [u64],
+    r: usize,
+) -> Result<Flat, Refusal>
     ensures { LoadsCells check lay_id (pair.read s.now at) t rows.old r id_width result rows.new }
 {
-    match get_u64(s, at) {
-        ReadU64::Refused(e) => Flat::Refused(e),
-        ReadU64::Value {
-            value: predicate,
-            next,
-        } => match get_u64(s, next) {
-            ReadU64::Refused(e) => Flat::Refused(e),
-            ReadU64::Value {
-                value: sequence,
-                next: end,
-            } => {
-                if 0xFFFF_FFFF < predicate {
-                    return Flat::Refused(Refusal::UnknownPredicate);
-                }
-                if 0x100_0000 <= predicate {
-                    return Flat::Refused(bad_fact(predicate, sequence));
-                }
-                if 0x100_0000_0000 <= sequence {
-                    return Flat::Refused(bad_fact(predicate, sequence));
-                }
-                store_one(check, rows, r, predicate * 0x100_0000_0000 + sequence);
-                Flat::Read { next: end, text: t }
-            }
-        },
+    let (predicate, p) = get_u64(s, at)?;
+    let (sequence, next) = get_u64(s, p)?;
+    if MAX_U32 < predicate {
+        return Err(Refusal::UnknownPredicate);
     }
+    if 0x100_0000 <= predicate {
+        return Err(bad_fact(predicate, sequence));
+    }
+    if 0x100_0000_0000 <= sequence {
+        return Err(bad_fact(predicate, sequence));
+    }
+    store_one(check, rows, r, predicate * 0x100_0000_0000 + sequence);
+    Ok(Flat { next, text: t })
 }
 
-fn with_nodes(row: Flat, n: usize) -> Walked
+fn with_nodes(row: Result<Flat, Refusal>, n: usize) -> Result<Walked, Refusal>
     ensures { result ≡ beside row n }
 {
-    match row {
-        Flat::Read { next, text } => Walked::Read {
-            next,
-            text,
-            nodes: n,
-        },
-        Flat::Refused(e) => Walked::Refused(e),
-    }
+    let Flat { next, text } = row?;
+    Ok(Walked {
+        next,
+        text,
+        nodes: n,
+    })
 }
 
 fn read_row(
@@ -376,7 +314,7 @@ fn read_row(
     r: usize,
     nodes: &mut [u64],
     n: usize,
-) -> Walked
+) -> Result<Walked, Refusal>
     requires { (t + n ≤ at) × (at ≤ length s.now) × (r ≤ 2 * at) }
     ensures { told_row (r + width_of kind) result text.new rows.new nodes.new ≡ load_row kind check limit s.now at (record { text = text.old; t = t; rows = rows.old; r = r; nodes = nodes.old; n = n }) }
 {
@@ -401,37 +339,22 @@ pub(crate) fn read_rows(
     t: usize,
     rows: &mut [u64],
     nodes: &mut [u64],
-) -> Walked
+) -> Result<Walked, Refusal>
     requires { (t ≤ at) × (at ≤ length s.now) }
     ensures { LoadsRows kind check limit count s.now at text.old t rows.old nodes.old (count * width_of kind) result text.new rows.new nodes.new × Within s.now (count * width_of kind) result }
 {
     let width = kind.width();
-    let mut p = at;
-    let mut q = t;
+    let mut past = Walked {
+        next: at,
+        text: t,
+        nodes: 0,
+    };
     let mut r: usize = 0;
-    let mut n: usize = 0;
-    let mut left = count;
-    while 0 < left {
-        match read_row(kind, s, p, check, limit, text, q, rows, r, nodes, n) {
-            Walked::Refused(e) => {
-                return Walked::Refused(e);
-            }
-            Walked::Read {
-                next,
-                text: u,
-                nodes: m,
-            } => {
-                p = next;
-                q = u;
-                n = m;
-                r += width;
-                left -= 1;
-            }
-        }
+    for _ in 0..count {
+        past = read_row(
+            kind, s, past.next, check, limit, text, past.text, rows, r, nodes, past.nodes,
+        )?;
+        r += width;
     }
-    Walked::Read {
-        next: p,
-        text: q,
-        nodes: n,
-    }
+    Ok(past)
 }

@@ -9,34 +9,30 @@ use Rattle.varint.proofs.Basics.{pick_cases}
 use Rattle.protocol.specs.Codes.{mode_byte, mode_of, error_byte, error_of, op_byte, op_of}
 use Rattle.protocol.specs.declared.message.Mode.{Mode}
 use Rattle.protocol.specs.declared.message.Mode.TheVariants.{ReadOnly, ReadWrite}
-use Rattle.protocol.specs.declared.message.MaybeMode.{MaybeMode}
-use Rattle.protocol.specs.declared.message.MaybeMode.TheVariants as MM
 use Rattle.protocol.specs.declared.message.ErrorCode.{ErrorCode}
 use Rattle.protocol.specs.declared.message.ErrorCode.TheVariants.{Protocol, UnknownDatabase, SchemaMismatch, ModeRefused, BadFacts, Conflict, BadQuery, Internal, InUse, Refused, Busy}
-use Rattle.protocol.specs.declared.message.MaybeErrorCode.{MaybeErrorCode}
-use Rattle.protocol.specs.declared.message.MaybeErrorCode.TheVariants as ME
 use Rattle.protocol.specs.declared.message.ControlOp.{ControlOp}
 use Rattle.protocol.specs.declared.message.ControlOp.TheVariants.{Create, Finish, Remove}
-use Rattle.protocol.specs.declared.message.MaybeControlOp.{MaybeControlOp}
-use Rattle.protocol.specs.declared.message.MaybeControlOp.TheVariants as MC
+use Rattle.std.specs.Prelude.{Result, Ok}
+use Rattle.varint.specs.declared.error.Refusal.{Refusal}
 
-pub mode_known : (x : Mode) → mode_of (mode_byte x) ≡ MM.Known x
+pub mode_known : (x : Mode) → mode_of (mode_byte x) ≡ Ok x
 mode_known ReadOnly = refl
 mode_known ReadWrite = refl
 
-pub mode_only : (b : ℕ) (x : Mode) → mode_of b ≡ MM.Known x → mode_byte x ≡ b
+pub mode_only : (b : ℕ) (x : Mode) → mode_of b ≡ Ok x → mode_byte x ≡ b
 mode_only b x =
     pick_cases P (eqb b 0) (λ t. known ReadOnly 0 refl t)
     (λ _. pick_cases P (eqb b 1) (λ t. known ReadWrite 1 refl t)
     (λ _ e. let z : ◌≡◌ {A = ℕ} 0 1 = cc in absurd (omega arith)))
   where
-    P : MaybeMode → Type 0
-    P y = y ≡ MM.Known x → mode_byte x ≡ b
+    P : Result Mode Refusal → Type 0
+    P y = y ≡ Ok x → mode_byte x ≡ b
 
-    known : (c : Mode) (n : ℕ) → mode_byte c ≡ n → eqb b n ≡ true → P (MM.Known c)
+    known : (c : Mode) (n : ℕ) → mode_byte c ≡ n → eqb b n ≡ true → P (Ok c)
     known c n w t e = let y : c ≡ x = cc in ap mode_byte (sym y) ∙ w ∙ sym (eqb-true b n t)
 
-pub error_known : (x : ErrorCode) → error_of (error_byte x) ≡ ME.Known x
+pub error_known : (x : ErrorCode) → error_of (error_byte x) ≡ Ok x
 error_known Protocol = refl
 error_known UnknownDatabase = refl
 error_known SchemaMismatch = refl
@@ -49,7 +45,7 @@ error_known InUse = refl
 error_known Refused = refl
 error_known Busy = refl
 
-pub error_only : (b : ℕ) (x : ErrorCode) → error_of b ≡ ME.Known x → error_byte x ≡ b
+pub error_only : (b : ℕ) (x : ErrorCode) → error_of b ≡ Ok x → error_byte x ≡ b
 error_only b x =
     pick_cases P (eqb b 1) (λ t. known Protocol 1 refl t)
     (λ _. pick_cases P (eqb b 2) (λ t. known UnknownDatabase 2 refl t)
@@ -64,26 +60,26 @@ error_only b x =
     (λ _. pick_cases P (eqb b 11) (λ t. known Busy 11 refl t)
     (λ _ e. let z : ◌≡◌ {A = ℕ} 0 1 = cc in absurd (omega arith))))))))))))
   where
-    P : MaybeErrorCode → Type 0
-    P y = y ≡ ME.Known x → error_byte x ≡ b
+    P : Result ErrorCode Refusal → Type 0
+    P y = y ≡ Ok x → error_byte x ≡ b
 
-    known : (c : ErrorCode) (n : ℕ) → error_byte c ≡ n → eqb b n ≡ true → P (ME.Known c)
+    known : (c : ErrorCode) (n : ℕ) → error_byte c ≡ n → eqb b n ≡ true → P (Ok c)
     known c n w t e = let y : c ≡ x = cc in ap error_byte (sym y) ∙ w ∙ sym (eqb-true b n t)
 
-pub op_known : (x : ControlOp) → op_of (op_byte x) ≡ MC.Known x
+pub op_known : (x : ControlOp) → op_of (op_byte x) ≡ Ok x
 op_known Create = refl
 op_known Finish = refl
 op_known Remove = refl
 
-pub op_only : (b : ℕ) (x : ControlOp) → op_of b ≡ MC.Known x → op_byte x ≡ b
+pub op_only : (b : ℕ) (x : ControlOp) → op_of b ≡ Ok x → op_byte x ≡ b
 op_only b x =
     pick_cases P (eqb b 1) (λ t. known Create 1 refl t)
     (λ _. pick_cases P (eqb b 2) (λ t. known Finish 2 refl t)
     (λ _. pick_cases P (eqb b 3) (λ t. known Remove 3 refl t)
     (λ _ e. let z : ◌≡◌ {A = ℕ} 0 1 = cc in absurd (omega arith))))
   where
-    P : MaybeControlOp → Type 0
-    P y = y ≡ MC.Known x → op_byte x ≡ b
+    P : Result ControlOp Refusal → Type 0
+    P y = y ≡ Ok x → op_byte x ≡ b
 
-    known : (c : ControlOp) (n : ℕ) → op_byte c ≡ n → eqb b n ≡ true → P (MC.Known c)
+    known : (c : ControlOp) (n : ℕ) → op_byte c ≡ n → eqb b n ≡ true → P (Ok c)
     known c n w t e = let y : c ≡ x = cc in ap op_byte (sym y) ∙ w ∙ sym (eqb-true b n t)

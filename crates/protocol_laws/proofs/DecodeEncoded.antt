@@ -10,8 +10,6 @@ use borrow.Author.Tests.{ltb-true, ltb-false}
 use Rattle.varint.specs.Gathering.{Held, held, lacks}
 use Rattle.varint.specs.Outs.{Sent, wrote, send}
 use Rattle.varint.specs.Stores.{filled}
-use Rattle.varint.specs.declared.Written.{Written}
-use Rattle.varint.specs.declared.Written.TheVariants.{Wrote}
 use Rattle.varint.proofs.Basics.{pick_cases}
 use Rattle.varint.proofs.StoreLaws.{filled_fits}
 use Rattle.desc.proofs.Undone.{not_wrote}
@@ -28,21 +26,23 @@ use Rattle.protocol_laws.proofs.HeldLaid.{fine_sound, held_laid}
 use Rattle.protocol_laws.proofs.MessagesBack.{read_printed}
 use Rattle.protocol_laws.proofs.ShownHeld.{held_shown}
 use Rattle.protocol_laws.proofs.ShownSaid.{shown_said, said_entry, said_needs}
+use Rattle.std.specs.Prelude.{Result, Ok}
+use Rattle.varint.specs.declared.error.Refusal.{Refusal}
 
 -- where x was sent whole, it is no longer than it may be, and stands in front
 module _ (max : ℕ) (x d : List ℕ) (n : ℕ) (d' : List ℕ) where
-  stored : wrote d x ≡ Wrote n → filled d x ≡ d' → take n d' ≡ x
+  stored : wrote d x ≡ Ok n → filled d x ≡ d' → take n d' ≡ x
   unfolding wrote
   stored =
-      pick_cases (λ (w : Written). w ≡ Wrote n → filled d x ≡ d' → take n d' ≡ x) (ltb (length d) (length x)) (λ _ e _. not_wrote e)
+      pick_cases (λ (w : Result ℕ Refusal). w ≡ Ok n → filled d x ≡ d' → take n d' ≡ x) (ltb (length d) (length x)) (λ _ e _. not_wrote e)
       (λ k e o.
       let u : length x ≡ n = cc in
       rw (← o, ← u, filled_fits d x (ltb-false (length d) (length x) k)) (take-append_seam x (replicate (length d - length x) 0)))
 
-  sent_whole : send max x d ≡ record { answer = Wrote n; out = d' } → (length x ≤ max) × (take n d' ≡ x)
+  sent_whole : send max x d ≡ record { answer = Ok n; out = d' } → (length x ≤ max) × (take n d' ≡ x)
   unfolding send
   sent_whole =
-      pick_cases (λ (s : Sent). s ≡ record { answer = Wrote n; out = d' } → (length x ≤ max) × (take n d' ≡ x)) (ltb max (length x))
+      pick_cases (λ (s : Sent). s ≡ record { answer = Ok n; out = d' } → (length x ≤ max) × (take n d' ≡ x)) (ltb max (length x))
       (λ _ e. not_wrote (ap (λ (s : Sent). s.answer) e))
       (λ h e. (ltb-false max (length x) h, stored (ap (λ (s : Sent). s.answer) e) (ap (λ (s : Sent). s.out) e)))
 
@@ -62,7 +62,7 @@ module _ (max limit : ℕ) (small : Narrow max) (message : Message) (tx rs nd : 
     unfolding encode_message sent
     printed = on (held_said limit message tx rs nd) refl h.sent
       where
-        on : (x : Held Said) → held_said limit message tx rs nd ≡ x → sent max x h.out ≡ record { answer = Wrote n; out = out' } → Printed
+        on : (x : Held Said) → held_said limit message tx rs nd ≡ x → sent max x h.out ≡ record { answer = Ok n; out = out' } → Printed
         on (lacks r) i e = not_wrote (ap (λ (s : Sent). s.answer) e)
         on (held m) i e =
             let w = sent_whole max (print_said m) h.out n out' e in

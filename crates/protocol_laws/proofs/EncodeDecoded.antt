@@ -7,7 +7,7 @@ use native.Mathlib.Omega.{arith}
 use lib.Dec.{ltb}
 use lib.ListN.{length, replicate}
 use borrow.Author.Tests.{ltb-false, le-ltb}
-use Rattle.varint.specs.Formats.{Got, got, bad}
+use Rattle.varint.specs.Got.{Got}
 use Rattle.varint.specs.Outs.{send}
 use Rattle.varint.specs.declared.error.Refusal.{Refusal}
 use Rattle.varint.proofs.Basics.{pick_cases}
@@ -16,15 +16,15 @@ use Rattle.protocol.specs.Decoding.{Left, kept, fitted, settled, decode_message}
 use Rattle.protocol.specs.Encoding.{sent, encode_message}
 use Rattle.protocol.specs.Laying.{Laid}
 use Rattle.protocol.specs.Said.{Said, read_message, print_said, lay}
-use Rattle.protocol.specs.declared.message.Answer.TheVariants.{Accepted}
 use Rattle.protocol.specs.declared.message.Message.{Message}
 use Rattle.protocol_laws.specs.Returns.{Decoded, BytesReturn, EncodeDecoded}
 use Rattle.protocol_laws.proofs.HeldLaid.{Sound, held_laid, read_sound}
 use Rattle.protocol_laws.proofs.MessagesForth.{read_whole, read_short, print_as}
+use Rattle.std.specs.Prelude.{Ok, Err}
 
 module _ (tx rs nd : List ℕ) (message : Message) (tx' rs' nd' : List ℕ) where
   abbrev accepted : Left
-  accepted = record { answer = Accepted message; text = tx'; rows = rs'; nodes = nd' }
+  accepted = record { answer = Ok message; text = tx'; rows = rs'; nodes = nd' }
 
   -- the message is laid out at the start of the memory
   record LaidAs (l : Laid) : Type 0 where
@@ -65,13 +65,13 @@ module _ (tx rs nd : List ℕ) (message : Message) (tx' rs' nd' : List ℕ) wher
   record Taken (g : Got Said) : Type 0 where
     said : Said
     next : ℕ
-    read : g ≡ got said next
+    read : g ≡ Ok (said, next)
     laid : LaidAs (lay said)
 
   settled_laid : (g : Got Said) → settled g tx rs nd ≡ accepted → Taken g
   unfolding settled
-  settled_laid (got m q) h = record { said = m; next = q; read = refl; laid = fitted_laid (lay m) h }
-  settled_laid (bad e) h = not_kept e h
+  settled_laid (Ok (m, q)) h = record { said = m; next = q; read = refl; laid = fitted_laid (lay m) h }
+  settled_laid (Err e) h = not_kept e h
 
 -- what is laid out there is encoded to its bytes
 laid_encoded : (max limit : ℕ) (m : Said) → Sound limit m → (tx rs nd X Y Z d : List ℕ) (message : Message) → (lay m).message ≡ message

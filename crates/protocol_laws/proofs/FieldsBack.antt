@@ -10,7 +10,8 @@ use lib.Seq.{get_or-append_seam}
 use borrow.Author.Tests.{lt-ltb, le-ltb, le-leb}
 use Rattle.varint.specs.Choice.{pick}
 use Rattle.varint.specs.Fixed.{put_le}
-use Rattle.varint.specs.Formats.{Got, got, bad, then, Format, varint, fixed, print_all}
+use Rattle.varint.specs.Got.{then}
+use Rattle.varint.specs.Formats.{Format, varint, fixed, print_all}
 use Rattle.varint.specs.Leb128.{put_u64}
 use Rattle.varint.specs.RoundTrips.{Reads, Back, ListOk}
 use Rattle.varint.specs.Stores.{part}
@@ -22,17 +23,12 @@ use Rattle.varint.proofs.FormatBack.{in_a_row, made_of, varint_back, fixed_back,
 use Rattle.varint.proofs.StoreLaws.{part_seam}
 use Rattle.protocol.specs.Codes.{mode_of, mode_byte, error_of, error_byte, op_of, op_byte}
 use Rattle.protocol.specs.Fetch.{digest_on, digest, join_id, split_id, fact_id, bad_fact, pair}
-use Rattle.protocol.specs.Fields.{name, provided, narrow, byte, mode_got, mode, error_got, error_code, op_got, control_op, bit, yes, flag, wide_flag, Optional, absent, present, optional_on, optional, counted_to, raw}
+use Rattle.protocol.specs.Fields.{name, provided, narrow, byte, made_at, mode, error_code, control_op, bit, yes, flag, wide_flag, Optional, absent, present, optional_on, optional, counted_to, raw}
 use Rattle.protocol.specs.Reply.{Reply, created, finished, removed, to_finished, from_finished, finish, reply_on, reply}
-use Rattle.protocol.specs.declared.message.Mode.{Mode}
-use Rattle.protocol.specs.declared.message.Mode.TheVariants.{ReadOnly, ReadWrite}
-use Rattle.protocol.specs.declared.message.ErrorCode.{ErrorCode}
-use Rattle.protocol.specs.declared.message.ErrorCode.TheVariants.{Protocol, UnknownDatabase, SchemaMismatch, ModeRefused, BadFacts, Conflict, BadQuery, Internal, InUse, Refused, Busy}
-use Rattle.protocol.specs.declared.message.ControlOp.{ControlOp}
 use Rattle.protocol.specs.declared.message.ControlOp.TheVariants.{Create, Finish, Remove}
-use Rattle.protocol.specs.declared.message.Digest.{Digest}
-use Rattle.protocol.specs.declared.message.Digest.TheVariants.{Absent, Present}
 use Rattle.protocol_laws.specs.Fine.{Wide, Narrow, IfPresent, FineDigest, FineReply}
+use Rattle.protocol_laws.proofs.CodeRounds.{mode_known, error_known, op_known}
+use Rattle.std.specs.Prelude.{Ok, Err, Result, Some, None, Option}
 
 -- nothing is asked of a thing
 abbrev Any : {A : Type 0} → A → Type 0
@@ -61,41 +57,19 @@ byte_back missing =
     }
 
 -- a byte that stands for a thing
-coded_back : {A : Type 0} (missing : Refusal) (code : A → ℕ) (of : ℕ → ℕ → Got A) → ((a : A) (q : ℕ) → of (code a) q ≡ got a q)
-    → Back (record { read = λ s at. then ((byte missing).read s at) of; print = λ a. code a ∷ [] }) Any
-coded_back missing code of same =
-    record { back = λ a h before rest. rw ((byte_back missing).back (code a) tt before rest) (same a (length before + 1)) }
+coded_back : {A : Type 0} (missing : Refusal) (code : A → ℕ) (of : ℕ → Result A Refusal) → ((a : A) → of (code a) ≡ Ok a)
+    → Back (record { read = λ s at. then ((byte missing).read s at) (λ b q. made_at (of b) q); print = λ a. code a ∷ [] }) Any
+coded_back missing code of known =
+    record { back = λ a h before rest. rw ((byte_back missing).back (code a) tt before rest, known a) }
 
 pub mode_back : Back mode Any
-mode_back = coded_back (TypeMismatch M.Mode) mode_byte (λ b q. mode_got (mode_of b) q) same
-  where
-    same : (m : Mode) (q : ℕ) → mode_got (mode_of (mode_byte m)) q ≡ got m q
-    same ReadOnly q = refl
-    same ReadWrite q = refl
+mode_back = coded_back (TypeMismatch M.Mode) mode_byte mode_of mode_known
 
 pub error_code_back : Back error_code Any
-error_code_back = coded_back (TypeMismatch M.ErrorCode) error_byte (λ b q. error_got (error_of b) q) same
-  where
-    same : (e : ErrorCode) (q : ℕ) → error_got (error_of (error_byte e)) q ≡ got e q
-    same Protocol q = refl
-    same UnknownDatabase q = refl
-    same SchemaMismatch q = refl
-    same ModeRefused q = refl
-    same BadFacts q = refl
-    same Conflict q = refl
-    same BadQuery q = refl
-    same Internal q = refl
-    same InUse q = refl
-    same Refused q = refl
-    same Busy q = refl
+error_code_back = coded_back (TypeMismatch M.ErrorCode) error_byte error_of error_known
 
 pub op_back : Back control_op Any
-op_back = coded_back (TypeMismatch M.ControlOp) op_byte (λ b q. op_got (op_of b) q) same
-  where
-    same : (o : ControlOp) (q : ℕ) → op_got (op_of (op_byte o)) q ≡ got o q
-    same Create q = refl
-    same Finish q = refl
-    same Remove q = refl
+op_back = coded_back (TypeMismatch M.ControlOp) op_byte op_of op_known
 
 yes_bit : (b : Bool) → yes (bit b) ≡ b
 yes_bit true = refl
@@ -125,11 +99,11 @@ optional_back {A = A} {f = f} {P = P} F = record { back = on }
 pub digest_back : Back digest FineDigest
 digest_back = record { back = on }
   where
-    on : (d : Digest) → FineDigest d → Reads digest.read (digest.print d) d
-    on Absent h = λ before rest. rw ((byte_back UnexpectedEof).back 0 tt before rest)
-    on (Present d) h =
-        in_a_row (byte UnexpectedEof).read digest_on (1 ∷ []) (put_u64 d) 1 (Present d) ((byte_back UnexpectedEof).back 1 tt)
-        (made_of varint.read Present (put_u64 d) d (varint_back.back d h))
+    on : (d : Option ℕ) → FineDigest d → Reads digest.read (digest.print d) d
+    on None h = λ before rest. rw ((byte_back UnexpectedEof).back 0 tt before rest)
+    on (Some d) h =
+        in_a_row (byte UnexpectedEof).read digest_on (1 ∷ []) (put_u64 d) 1 (Some d) ((byte_back UnexpectedEof).back 1 tt)
+        (made_of varint.read Some (put_u64 d) d (varint_back.back d h))
 
 finish_back : Back finish (λ f. Wide f.fingerprint × (Wide f.facts × (Wide f.bytes × Unit)))
 finish_back = named_back to_finished from_finished (λ f. refl) (pair_back varint_back (pair_back varint_back (pair_back varint_back (flag_back M.AlreadyComplete))))
@@ -157,7 +131,7 @@ counted_to_back {f = f} limit why Few few F =
       back = λ l h before rest.
           let x : List ℕ = put_u64 (length l) in
           let s : List ℕ = before ++ ((x ++ print_all f l) ++ rest) in
-          let v : varint.read s (length before) ≡ got (length l) (length before + length x) =
+          let v : varint.read s (length before) ≡ Ok (length l, length before + length x) =
           rw (append_assoc x (print_all f l) rest) (varint_back.back (length l) h.0.0 before (print_all f l ++ rest)) in
           let c = (counted_back F).back l h.0 before rest in
           rw (v, le-ltb (limit s) (length l) (few l before rest h.1)) (rw v at c);
@@ -167,11 +141,11 @@ pub raw_back : Back raw (λ x. Narrow (length x))
 raw_back =
     record {
       back = λ x h.
-          in_a_row (fixed 4).read (λ n s p. pick (ltb (length s - p) n) (bad UnexpectedEof) (got (part s p n) (p + n)))
+          in_a_row (fixed 4).read (λ n s p. pick (ltb (length s - p) n) (Err UnexpectedEof) (Ok (part s p n, p + n)))
           (put_le 4 (length x)) x (length x) x ((fixed_back 4).back (length x) h) (bytes x);
     }
   where
-    bytes : (x : List ℕ) → Reads (λ s p. pick (ltb (length s - p) (length x)) (bad UnexpectedEof) (got (part s p (length x)) (p + length x))) x x
+    bytes : (x : List ℕ) → Reads (λ s p. pick (ltb (length s - p) (length x)) (Err UnexpectedEof) (Ok (part s p (length x), p + length x))) x x
     bytes x before rest =
         let room : length x ≤ length (before ++ (x ++ rest)) - length before = simp length-append (omega arith) in
         rw (le-ltb (length (before ++ (x ++ rest)) - length before) (length x) room, part_seam before x rest)

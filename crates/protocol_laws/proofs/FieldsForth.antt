@@ -11,7 +11,8 @@ use lib.Seq.{drop-cons, drop-length}
 use borrow.Author.Tests.{ltb-true, ltb-false, eqb-true}
 use Rattle.varint.specs.Choice.{pick}
 use Rattle.varint.specs.Fixed.{put_le}
-use Rattle.varint.specs.Formats.{Got, got, bad, then, Format, varint, ◌⊗◌, named, read_times, print_all}
+use Rattle.varint.specs.Got.{Got, then, got}
+use Rattle.varint.specs.Formats.{Format, varint, ◌⊗◌, named, read_times, print_all}
 use Rattle.varint.specs.Leb128.{put_u64}
 use Rattle.varint.specs.RoundTrips.{Bytes, Stands, Forth}
 use Rattle.varint.specs.Stores.{part}
@@ -22,16 +23,15 @@ use Rattle.varint.specs.declared.error.Refusal.TheVariants.{UnexpectedEof, TypeM
 use Rattle.varint.proofs.Basics.{pick_cases, both}
 use Rattle.varint.proofs.FormatForth.{part_stands, joined, varint_forth, fixed_forth, pair_forth, times_forth}
 use Rattle.varint.proofs.FormatGives.{Gives}
-use Rattle.varint.proofs.FormatParts.{no_got, got_of, went, named_went, times_length}
+use Rattle.varint.proofs.FormatParts.{went, named_went, times_length}
+use Rattle.varint.proofs.Gots.{no_got, got_of}
 use Rattle.varint.proofs.StoreLaws.{length_part}
 use Rattle.protocol.specs.Codes.{mode_byte, mode_of}
-use Rattle.protocol.specs.Fields.{provided, narrow, byte, mode_got, mode, counted_to, raw, to_end}
+use Rattle.protocol.specs.Fields.{provided, narrow, byte, made_at, mode, counted_to, raw, to_end}
 use Rattle.protocol.specs.Fetch.{digest_on, print_digest, digest, join_id, split_id, fact_id, bad_fact, pair}
-use Rattle.protocol.specs.declared.message.Digest.{Digest}
-use Rattle.protocol.specs.declared.message.Mode.{Mode}
-use Rattle.protocol.specs.declared.message.Mode.TheVariants.{ReadOnly, ReadWrite}
-use Rattle.protocol.specs.declared.message.MaybeMode.{MaybeMode}
 use Rattle.protocol.proofs.FieldEnds.{kept, spared, passed, byte_got}
+use Rattle.protocol_laws.proofs.CodeRounds.{mode_only}
+use Rattle.std.specs.Prelude.{Ok, Err, Result, Option}
 
 -- Formats
 
@@ -43,7 +43,7 @@ pub record Behind (x y s : List ℕ) (p q : ℕ) : Type 0 where
 
 -- something is read, and then as it tells
 pub chain_forth : {A B : Type 0} {f : Format A} (more : A → List ℕ → ℕ → Got B) (print : B → List ℕ) → Forth f
-    → ((s : List ℕ) (p : ℕ) (a : A) (b : B) (q : ℕ) → Bytes s → p ≤ length s → more a s p ≡ got b q → Behind (f.print a) (print b) s p q)
+    → ((s : List ℕ) (p : ℕ) (a : A) (b : B) (q : ℕ) → Bytes s → p ≤ length s → more a s p ≡ Ok (b, q) → Behind (f.print a) (print b) s p q)
     → Forth (record { read = λ s at. then (f.read s at) (λ a p. more a s p); print = print })
 chain_forth {f = f} more print F G =
     record {
@@ -86,27 +86,21 @@ byte_forth missing =
           record { bytes = drop-cons s at 0 x.0 ∙ cc (add-one at, x.1, x.2); next = omega arith; inside = omega arith };
     }
 
-mode_got_lem : (b p : ℕ) (m : Mode) (q : ℕ) → mode_got (mode_of b) p ≡ got m q → (mode_byte m ≡ b) × (p ≡ q)
-mode_got_lem b p m q =
-    pick_cases P (eqb b 0) (λ t. known ReadOnly (eqb-true b 0 t))
-    (λ _. pick_cases P (eqb b 1) (λ t. known ReadWrite (eqb-true b 1 t)) (λ _. no_got))
-  where
-    P : MaybeMode → Type 0
-    P x = mode_got x p ≡ got m q → (mode_byte m ≡ b) × (p ≡ q)
-
-    known : (k : Mode) → b ≡ mode_byte k → got k p ≡ got m q → (mode_byte m ≡ b) × (p ≡ q)
-    known k c e = let w = got_of e in (sym (c ∙ ap mode_byte w.0), w.1)
+-- what was made is what is told, and no more was read
+pub made_got : {A : Type 0} (x : Result A Refusal) (p : ℕ) (a : A) (q : ℕ) → made_at x p ≡ Ok (a, q) → (x ≡ Ok a) × (p ≡ q)
+made_got (Ok b) p a q e = let w = got_of e in (ap (λ c. Ok c) w.0, w.1)
+made_got (Err r) p a q e = no_got e
 
 pub mode_forth : Forth mode
 mode_forth =
-    chain_forth (λ b s p. mode_got (mode_of b) p) (λ m. mode_byte m ∷ []) (byte_forth (TypeMismatch M.Mode))
+    chain_forth (λ b s p. made_at (mode_of b) p) (λ m. mode_byte m ∷ []) (byte_forth (TypeMismatch M.Mode))
     (λ s p b m q B h e.
-    let x = mode_got_lem b p m q e in
-    record { rest = []; whole = ap (λ (c : ℕ). c ∷ []) x.0; stands = nothing s p q h x.1 })
+    let x = made_got (mode_of b) p m q e in
+    record { rest = []; whole = ap (λ (c : ℕ). c ∷ []) (mode_only b m x.0); stands = nothing s p q h x.1 })
 
 pub counted_to_forth : {A : Type 0} {f : Format A} (limit : List ℕ → ℕ) (why : ℕ → ℕ → Refusal) → Forth f → Forth (counted_to limit why f)
 counted_to_forth {f = f} limit why F =
-    chain_forth (λ n s p. pick (ltb (limit s) n) (bad (why n (limit s))) (read_times f n s p)) (λ l. put_u64 (length l) ++ print_all f l) varint_forth
+    chain_forth (λ n s p. pick (ltb (limit s) n) (Err (why n (limit s))) (read_times f n s p)) (λ l. put_u64 (length l) ++ print_all f l) varint_forth
     (λ s p n l q B h e.
     let x = spared (ltb (limit s) n) _ _ e in
     record {
@@ -127,7 +121,7 @@ counted_to_gives f most why =
 
 pub raw_forth : Forth raw
 raw_forth =
-    chain_forth (λ n s p. pick (ltb (length s - p) n) (bad UnexpectedEof) (got (part s p n) (p + n))) (λ x. put_le 4 (length x) ++ x) (fixed_forth 4)
+    chain_forth (λ n s p. pick (ltb (length s - p) n) (Err UnexpectedEof) (Ok (part s p n, p + n))) (λ x. put_le 4 (length x) ++ x) (fixed_forth 4)
     (λ s p n x q B h e.
     let y = spared (ltb (length s - p) n) _ _ e in
     let room = ltb-false (length s - p) n y.0 in
@@ -136,7 +130,7 @@ raw_forth =
     let w₁ = w.1 in
     record { rest = x; whole = ap (λ (k : ℕ). put_le 4 k ++ x) l; stands = part_stands s p n q x w.1 (omega arith) w.0 })
 
-digest_on_lem : (s : List ℕ) (p b : ℕ) (d : Digest) (q : ℕ) → Bytes s → p ≤ length s → digest_on b s p ≡ got d q
+digest_on_lem : (s : List ℕ) (p b : ℕ) (d : Option ℕ) (q : ℕ) → Bytes s → p ≤ length s → digest_on b s p ≡ Ok (d, q)
     → Behind (b ∷ []) (print_digest d) s p q
 digest_on_lem s p b d q B h =
     pick_cases P (eqb b 0)
@@ -149,8 +143,8 @@ digest_on_lem s p b d q B h =
     rw (← w.0, eqb-true b 1 t) (record { rest = put_u64 x.value; whole = refl; stands = i }))
     (λ _. no_got))
   where
-    P : Got Digest → Type 0
-    P x = x ≡ got d q → Behind (b ∷ []) (print_digest d) s p q
+    P : Got (Option ℕ) → Type 0
+    P x = x ≡ Ok (d, q) → Behind (b ∷ []) (print_digest d) s p q
 
 pub digest_forth : Forth digest
 digest_forth = chain_forth digest_on print_digest (byte_forth UnexpectedEof) digest_on_lem
@@ -172,7 +166,7 @@ fact_forth =
 
 -- The rest of a payload
 
-pub to_end_got : (check : Bool) (s : List ℕ) (at : ℕ) (x : List ℕ) (q : ℕ) → (to_end check).read s at ≡ got x q → (drop at s ≡ x) × (length s ≡ q)
+pub to_end_got : (check : Bool) (s : List ℕ) (at : ℕ) (x : List ℕ) (q : ℕ) → (to_end check).read s at ≡ Ok (x, q) → (drop at s ≡ x) × (length s ≡ q)
 to_end_got true s at x q e = got_of (kept (utf8 (drop at s)) _ _ e).1
 to_end_got false s at x q e = got_of e
 

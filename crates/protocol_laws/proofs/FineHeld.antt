@@ -32,7 +32,6 @@ use Rattle.protocol.specs.Said.{Said, said_startup, said_error, said_ids, said_t
 use Rattle.protocol.specs.Startup.{Startup, claim_width, held_claim, held_startup}
 use Rattle.protocol.specs.Types.{Predicate, type_width, type_numbers, types_laid, held_predicate, held_types}
 use Rattle.protocol.specs.declared.message.ControlOp.{ControlOp}
-use Rattle.protocol.specs.declared.message.Digest.{Digest}
 use Rattle.protocol.specs.declared.message.ErrorCode.{ErrorCode}
 use Rattle.protocol.specs.declared.message.ControlReply.{ControlReply}
 use Rattle.protocol.specs.declared.message.ControlReply.TheVariants as R
@@ -41,6 +40,8 @@ use Rattle.protocol.specs.declared.message.Span.{Span}
 use Rattle.protocol.specs.declared.message.Message.{Message}
 use Rattle.protocol.specs.declared.message.Message.TheVariants as Msg
 use Rattle.protocol_laws.specs.Fine.{Wide, Narrow, IfPresent, FineClaim, FinePredicate, FineStep, FineReply, FineSaid, TypedReply, Typed, Numbers}
+use Rattle.std.specs.Prelude.{Option}
+use Rattle.varint.specs.Texts.{span}
 
 -- nothing is asked of what is held
 pub any_held : {A : Type 0} (x : Held A) → HeldAs (λ _. Unit {0}) x
@@ -200,7 +201,7 @@ module _ (tx rs nd : List ℕ) (T : Wide (length tx)) (D : Wide (length nd)) (N 
       then_held_lem TextOk P (text_held tx query.start query.len) _ (text_held_lem tx _ _ T)
       (λ x a n. (t, omega (arith, cursor_short (put_le 8 limit) (put_le 4 (length c)) c x), a)))
 
-  fetch_held : (digest : Digest) (count : ℕ) → Typed (Msg.Fetch digest count) → HeldAs (λ m. FineSaid 0 (said_fetch m)) (held_fetch digest count rs)
+  fetch_held : (digest : Option ℕ) (count : ℕ) → Typed (Msg.Fetch digest count) → HeldAs (λ m. FineSaid 0 (said_fetch m)) (held_fetch digest count rs)
   unfolding held_fetch FineSaid Typed
   fetch_held digest count t =
       let P : Fetch → Type 0 = λ m. FineSaid 0 (said_fetch m) in

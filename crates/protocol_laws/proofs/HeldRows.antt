@@ -9,7 +9,6 @@ use lib.Dec.{leb}
 use lib.ListN.{length, length-append}
 use borrow.Author.Tests.{le-ltb, eq-eqb}
 use Rattle.varint.specs.Choice.{pick}
-use Rattle.varint.specs.Formats.{got}
 use Rattle.varint.specs.Gathering.{Held, held, name_held, text_held}
 use Rattle.varint.specs.RoundTrips.{All, TextOk}
 use Rattle.varint.specs.Stores.{part}
@@ -32,10 +31,11 @@ use Rattle.protocol.specs.Profile.{step_width, lay_step, held_step}
 use Rattle.protocol.specs.RowsHeld.{enough, held_times, all_good}
 use Rattle.protocol.specs.Startup.{claim_width, lay_claim, held_claim}
 use Rattle.protocol.specs.Types.{Predicate, type_width, has_value, lay_value, lay_predicate, type_numbers, node_after, type_laid, types_laid, held_predicate}
-use Rattle.protocol.proofs.RowEnds.{predicate_rows, predicate_nodes}
+use Rattle.protocol.proofs.RowEnds.{predicate_nodes}
 use Rattle.protocol_laws.specs.Fine.{IfPresent}
 use Rattle.protocol_laws.proofs.FineHeld.{value_in}
 use Rattle.protocol_laws.proofs.Standing.{At, at_first, at_room, at_cell, at_head, In, in_first, in_rest}
+use Rattle.std.specs.Prelude.{Ok}
 
 -- Flags
 
@@ -165,11 +165,11 @@ root_end (leaf tag p) n name d h = at_cell h 6
 root_end (branch tag ks) n name d h = at_cell h 6 ∙ omega arith
 
 module _ (limit : ℕ) (tr : Tree (List ℕ)) (f : Fine TextOk limit tr) {tx rs nd : List ℕ} {t r n : ℕ} (h : In (tree tr) tx rs nd t r n) where
-  tree_read : table limit nd n 0 ≡ got (placed tr t) (n + size tr)
+  tree_read : table limit nd n 0 ≡ Ok (placed tr t, n + size tr)
   tree_read =
       let o = h.nodes in
       table_rows (λ _. Unit) limit 0 (placed tr t) nd o.before o.after n (0, 0) 0 (placed_fine TextOk limit tr t f) root o.is o.place
-      ∙ ap (λ (k : ℕ). got (placed tr t) (n + k)) (size_placed tr t)
+      ∙ ap (λ (k : ℕ). Ok (placed tr t, n + k)) (size_placed tr t)
 
   tree_held : held_in (table limit nd n 0) tx ≡ held tr
   unfolding held_in
@@ -258,6 +258,13 @@ module _ (limit : ℕ) (p : Predicate) (ok : SoundPredicate limit p) (tx rs nd :
   pub predicate_numbers : type_numbers rs r ≡ true
   unfolding type_numbers
   predicate_numbers = rw (at_head row_there, at_cell row_there 3, at_cell row_there 4, ok.0, bit_small p.virtual, bit_small (has_value p.value))
+
+value_rows : (v : Optional (Tree (List ℕ))) (t n : ℕ) → (lay_value v).rows t n ≡ []
+value_rows absent t n = refl
+value_rows (present v) t n = refl
+
+pub predicate_rows : (p : Predicate) (t n : ℕ) → length ((lay_predicate p).rows t n) ≡ type_width
+predicate_rows p t n = ap (λ (x : List ℕ). length (0 ∷ 0 ∷ 0 ∷ 0 ∷ 0 ∷ 0 ∷ x)) (value_rows p.value _ _)
 
 pub predicate_rowed : (limit : ℕ) → Rowed lay_predicate (held_predicate limit) type_width (SoundPredicate limit)
 predicate_rowed limit =

@@ -10,7 +10,8 @@ use lib.ListN.{length, drop, length-append}
 use lib.Seq.{drop-append-add, drop-append_seam}
 use borrow.Author.Tests.{le-ltb, le-leb}
 use Rattle.varint.specs.Choice.{pick}
-use Rattle.varint.specs.Formats.{Got, got, bad, then, Format, ◌⊗◌, print_all}
+use Rattle.varint.specs.Got.{Got, then, got}
+use Rattle.varint.specs.Formats.{Format, ◌⊗◌, print_all}
 use Rattle.varint.specs.Leb128.{put_u64}
 use Rattle.varint.specs.RoundTrips.{Back}
 use Rattle.varint.specs.Utf8.{utf8}
@@ -36,6 +37,7 @@ use Rattle.protocol.specs.Types.{Predicate, to_predicate, from_predicate, predic
 use Rattle.protocol.specs.Wholes.{ended, versioned}
 use Rattle.protocol_laws.specs.Fine.{Narrow, FineClaim, FinePredicate, FineStep, FineSaid}
 use Rattle.protocol_laws.proofs.FieldsBack.{back_by, narrow_back, mode_back, error_code_back, op_back, flag_back, wide_flag_back, optional_back, digest_back, reply_back, counted_to_back, raw_back, pair_id_back}
+use Rattle.std.specs.Prelude.{Ok, Err}
 
 -- The formats of the messages
 
@@ -102,32 +104,32 @@ profile_back = back_by (λ l h. (h, tt)) (counted_to_back length LengthOutOfRang
 
 -- A format's bytes alone
 
-module _ {A : Type 0} {f : Format A} {Ok : A → Type 0} (F : Back f Ok) (a : A) (h : Ok a) where
-  whole : f.read (f.print a) 0 ≡ got a (length (f.print a))
+module _ {A : Type 0} {f : Format A} {P : A → Type 0} (F : Back f P) (a : A) (h : P a) where
+  whole : f.read (f.print a) 0 ≡ Ok (a, length (f.print a))
   whole = ap (λ (s : List ℕ). f.read s 0) (sym (append-nil (f.print a))) ∙ F.back a h [] [] ∙ ap (got a) (zero-add (length (f.print a)))
 
-  whole_ended : ended (f.print a) (f.read (f.print a) 0) ≡ got a (length (f.print a))
+  whole_ended : ended (f.print a) (f.read (f.print a) 0) ≡ Ok (a, length (f.print a))
   whole_ended = rw (whole, le-ltb (length (f.print a)) (length (f.print a)) (omega arith))
 
-  whole_versioned : (version : A → ℕ) → Narrow (version a) → versioned version (ended (f.print a) (f.read (f.print a) 0)) ≡ got a (length (f.print a))
+  whole_versioned : (version : A → ℕ) → Narrow (version a) → versioned version (ended (f.print a) (f.read (f.print a) 0)) ≡ Ok (a, length (f.print a))
   whole_versioned version n = rw (whole_ended, le-leb (version a) 0xFFFFFFFF (omega arith))
 
 -- two fields and a text to the end
 to_end_lem : {A B : Type 0} {f : Format A} {g : Format B} {P : A → Type 0} {Q : B → Type 0} → Back f P → Back g Q
     → (a : A) (b : B) (x : List ℕ) → P a → Q b → utf8 x ≡ true
-    → (f ⊗ g ⊗ to_end true).read (f.print a ++ (g.print b ++ x)) 0 ≡ got (a, (b, x)) (length (f.print a ++ (g.print b ++ x)))
+    → (f ⊗ g ⊗ to_end true).read (f.print a ++ (g.print b ++ x)) 0 ≡ Ok ((a, (b, x)), length (f.print a ++ (g.print b ++ x)))
 to_end_lem {f = f} {g = g} F G a b x p q u =
     let y : List ℕ = f.print a in
     let z : List ℕ = g.print b in
-    let e₁ : f.read (y ++ (z ++ x)) 0 ≡ got a (length y) = F.back a p [] (z ++ x) ∙ ap (got a) (zero-add (length y)) in
-    let e₂ : g.read (y ++ (z ++ x)) (length y) ≡ got b (length y + length z) = G.back b q y x in
+    let e₁ : f.read (y ++ (z ++ x)) 0 ≡ Ok (a, length y) = F.back a p [] (z ++ x) ∙ ap (got a) (zero-add (length y)) in
+    let e₂ : g.read (y ++ (z ++ x)) (length y) ≡ Ok (b, length y + length z) = G.back b q y x in
     let e₃ : drop (length y + length z) (y ++ (z ++ x)) ≡ x = rw (drop-append-add, drop-append_seam) in
     rw (e₁, e₂, e₃, u)
 
-page_read : (m : Page) → FineSaid 0 (said_page m) → read_page true ((page true).print m) ≡ got m (length ((page true).print m))
+page_read : (m : Page) → FineSaid 0 (said_page m) → read_page true ((page true).print m) ≡ Ok (m, length ((page true).print m))
 unfolding FineSaid read_page
 page_read m h =
-    ap (λ (g : Got (ℕ × (List ℕ × List ℕ))). then g (λ c q. got (to_page c) q))
+    ap (λ (g : Got (ℕ × (List ℕ × List ℕ))). then g (λ c q. Ok (to_page c, q)))
     (to_end_lem (fixed_back 8) raw_back m.limit m.cursor m.query h.0 h.1 h.2.1)
 
 -- how deep descriptors may nest is no matter of printing
@@ -145,14 +147,14 @@ read_at : (max limit entry : ℕ) (s : List ℕ) (g : Got Said) → length s ≤
 unfolding read_message
 read_at max limit entry s g h e = rw (le-ltb max (length s) h) (go (ltb 0 entry) (leb entry 12))
   where
-    go : (a b : Bool) → pick (a && b && false) (bad (BlockTooLarge (length s) max)) (read_entry true limit entry s) ≡ g
+    go : (a b : Bool) → pick (a && b && false) (Err (BlockTooLarge (length s) max)) (read_entry true limit entry s) ≡ g
     go true true = e
     go true false = e
     go false b = e
 
 -- What is printed of a message that is fine is read as that message, by the number that its frame tells.
 pub read_printed : (max limit : ℕ) (m : Said) → FineSaid limit m → length (print_said m) ≤ max
-    → read_message true max limit (entry_of m) (print_said m) ≡ got m (length (print_said m))
+    → read_message true max limit (entry_of m) (print_said m) ≡ Ok (m, length (print_said m))
 unfolding FineSaid read_entry print_said entry_of read_startup read_ready read_error read_complete read_ids read_types read_control read_reply read_profile read_page read_fetch read_listing
 read_printed max limit (said_startup m) h l =
     read_at max limit 1 _ _ l (ap (saying said_startup) (whole_versioned startup_back m h (λ m. m.version) h.0))

@@ -8,12 +8,14 @@ use lib.Dec.{ltb, leb}
 use lib.ListN.{length, drop_of_length-le}
 use borrow.Author.Tests.{ltb-false}
 use Rattle.varint.specs.Choice.{pick}
-use Rattle.varint.specs.Formats.{Got, got, bad, Format, fixed, ◌⊗◌}
+use Rattle.varint.specs.Got.{Got}
+use Rattle.varint.specs.Formats.{Format, fixed, ◌⊗◌}
 use Rattle.varint.specs.RoundTrips.{Bytes, Forth}
 use Rattle.varint.specs.declared.error.Mismatch.TheVariants.{Version}
 use Rattle.varint.specs.declared.error.Refusal.TheVariants.{TypeMismatch, BlockTooLarge, BadListingPredicate}
 use Rattle.varint.proofs.FormatForth.{varint_forth, fixed_forth, name_forth, pair_forth, named_forth, counted_forth}
-use Rattle.varint.proofs.FormatParts.{got_of, went, pair_went, named_went}
+use Rattle.varint.proofs.FormatParts.{went, pair_went, named_went}
+use Rattle.varint.proofs.Gots.{got_of}
 use Rattle.protocol.specs.Complete.{Complete, to_complete, from_complete, complete, read_complete}
 use Rattle.protocol.specs.Fetch.{Fetch, to_fetch, from_fetch, max_fetch, fetch, read_fetch}
 use Rattle.protocol.specs.Fields.{narrow, raw, to_end}
@@ -27,6 +29,7 @@ use Rattle.protocol_laws.specs.Canonical as Canon
 use Rattle.protocol_laws.specs.Canonical.{Canonical}
 use Rattle.protocol.proofs.FieldEnds.{spared, passed}
 use Rattle.protocol_laws.proofs.FieldsForth.{provided_forth, mode_forth, counted_to_forth, raw_forth, digest_forth, fact_forth, to_end_got, to_end_forth}
+use Rattle.std.specs.Prelude.{Ok, Err}
 
 -- The formats
 
@@ -59,7 +62,7 @@ listing_forth =
 -- f reads all of s as a
 pub record Whole {A : Type 0} (f : Format A) (s : List ℕ) (a : A) : Type 0 where
   pub next : ℕ
-  pub read : f.read s 0 ≡ got a next
+  pub read : f.read s 0 ≡ Ok (a, next)
   pub end : length s ≤ next
 
 -- so s is how a is printed
@@ -69,7 +72,7 @@ whole_print {f = f} {s = s} {a = a} F w B =
     sym (i.bytes ∙ rw (drop_of_length-le s w.end) (append-nil (f.print a)))
 
 -- what is left over was nothing
-pub ended_got : {A : Type 0} (f : Format A) (s : List ℕ) (a : A) (q : ℕ) → ended s (f.read s 0) ≡ got a q → Whole f s a
+pub ended_got : {A : Type 0} (f : Format A) (s : List ℕ) (a : A) (q : ℕ) → ended s (f.read s 0) ≡ Ok (a, q) → Whole f s a
 ended_got f s a q e =
     let y = went (f.read s 0) _ a q e in
     let z = spared (ltb y.next (length s)) _ _ y.rest in
@@ -78,12 +81,12 @@ ended_got f s a q e =
 
 -- nor was the version too wide
 pub versioned_got : {A : Type 0} (f : Format A) (version : A → ℕ) (s : List ℕ) (a : A) (q : ℕ)
-    → versioned version (ended s (f.read s 0)) ≡ got a q → Whole f s a
+    → versioned version (ended s (f.read s 0)) ≡ Ok (a, q) → Whole f s a
 versioned_got f version s a q e =
     ended_got f s a q (passed (ended s (f.read s 0)) (λ c. narrow (version c)) (λ _. TypeMismatch Version) a q e).0
 
 -- a query takes the rest
-page_got : (s : List ℕ) (a : Page) (q : ℕ) → (page true).read s 0 ≡ got a q → Whole (page true) s a
+page_got : (s : List ℕ) (a : Page) (q : ℕ) → (page true).read s 0 ≡ Ok (a, q) → Whole (page true) s a
 page_got s a q e =
     let x = named_went to_page from_page (fixed 8 ⊗ raw ⊗ to_end true) s 0 a q e in
     let y = pair_went (fixed 8) (raw ⊗ to_end true) s 0 x.value q x.read in
@@ -100,14 +103,14 @@ pub data ReadAs (s : List ℕ) : Said → Type 0 where
   as_fetch : (m : Fetch) → Whole fetch s m → ReadAs s (said_fetch m)
   as_listing : (m : Listing) → Whole listing s m → ReadAs s (said_listing m)
 
-read_as : {A : Type 0} (max : ℕ) (to : A → Said) (x : Got A) (s : List ℕ) (m : Said) (q : ℕ) → ((a : A) → x ≡ got a q → ReadAs s (to a))
-    → pick (ltb max (length s)) (bad (BlockTooLarge (length s) max)) (saying to x) ≡ got m q → ReadAs s m
+read_as : {A : Type 0} (max : ℕ) (to : A → Said) (x : Got A) (s : List ℕ) (m : Said) (q : ℕ) → ((a : A) → x ≡ Ok (a, q) → ReadAs s (to a))
+    → pick (ltb max (length s)) (Err (BlockTooLarge (length s) max)) (saying to x) ≡ Ok (m, q) → ReadAs s m
 read_as max to x s m q k e =
     let y = went x _ m q (spared (ltb max (length s)) _ _ e).1 in
     let w = got_of y.rest in
     rw (← w.0) (k y.value (y.first ∙ rw w.1 refl))
 
-pub read_whole : (max limit entry : ℕ) (s : List ℕ) (m : Said) (q : ℕ) → Canonical entry → read_message true max limit entry s ≡ got m q → ReadAs s m
+pub read_whole : (max limit entry : ℕ) (s : List ℕ) (m : Said) (q : ℕ) → Canonical entry → read_message true max limit entry s ≡ Ok (m, q) → ReadAs s m
 unfolding read_message read_entry read_startup read_ready read_complete read_page read_fetch read_listing
 read_whole max limit entry s m q Canon.startup =
     read_as max said_startup _ s m q (λ a r. as_startup a (versioned_got (startup true) (λ c. c.version) s a q r))
@@ -126,7 +129,7 @@ canonical_known Canon.page = refl
 canonical_known Canon.fetch = refl
 canonical_known Canon.listing = refl
 
-pub read_short : (max limit entry : ℕ) (s : List ℕ) (m : Said) (q : ℕ) → Canonical entry → read_message true max limit entry s ≡ got m q
+pub read_short : (max limit entry : ℕ) (s : List ℕ) (m : Said) (q : ℕ) → Canonical entry → read_message true max limit entry s ≡ Ok (m, q)
     → length s ≤ max
 unfolding read_message
 read_short max limit entry s m q c e =
@@ -143,6 +146,6 @@ print_as (as_fetch m w) B = whole_print fetch_forth w B
 print_as (as_listing m w) B = whole_print listing_forth w B
 
 -- A payload of one of these messages that is read is how the message is printed: no other bytes say the same.
-pub print_read : (max limit entry : ℕ) (s : List ℕ) (m : Said) (q : ℕ) → read_message true max limit entry s ≡ got m q → Canonical entry → Bytes s
+pub print_read : (max limit entry : ℕ) (s : List ℕ) (m : Said) (q : ℕ) → read_message true max limit entry s ≡ Ok (m, q) → Canonical entry → Bytes s
     → print_said m ≡ s
 print_read max limit entry s m q e c B = print_as (read_whole max limit entry s m q c e) B

@@ -22,7 +22,6 @@ use Rattle.protocol.specs.Startup.{Startup, claim_width, held_claim, held_startu
 use Rattle.protocol.specs.Types.{held_types}
 use Rattle.protocol.specs.declared.message.ControlReply.{ControlReply}
 use Rattle.protocol.specs.declared.message.ControlReply.TheVariants as R
-use Rattle.protocol.specs.declared.message.Digest.{Digest}
 use Rattle.protocol.specs.declared.message.Message.{Message}
 use Rattle.protocol.specs.declared.message.Message.TheVariants as Msg
 use Rattle.protocol.specs.declared.message.Mode.{Mode}
@@ -32,6 +31,7 @@ use Rattle.protocol_laws.proofs.FineHeld.{times_held, rows_held}
 use Rattle.protocol_laws.proofs.ShownRows.{held_weaker, Showing, raw_shown, text_shown, name_shown, Showed, showed_none, showed_more, id_shown, claim_shown, step_shown}
 use Rattle.protocol_laws.proofs.ShownSaid.{id_said, claim_said, step_said, shown_said}
 use Rattle.protocol_laws.proofs.ShownTypes.{types_shown}
+use Rattle.std.specs.Prelude.{Option}
 
 module _ (tx rs nd : List ℕ) where
   -- what is held is said by the message
@@ -65,7 +65,7 @@ module _ (tx rs nd : List ℕ) where
       then_held_lem (Showed claim_columns claim_said tx rs count 0) P (held_times (held_claim tx rs) claim_width count 0) _ (claims_shown count)
       (λ l b. rw (a, b.1, b.0))))
 
-  fetch_shown : (digest : Digest) (count : ℕ) → HeldAs (Shows said_fetch (Msg.Fetch digest count)) (held_fetch digest count rs)
+  fetch_shown : (digest : Option ℕ) (count : ℕ) → HeldAs (Shows said_fetch (Msg.Fetch digest count)) (held_fetch digest count rs)
   unfolding held_fetch shown shown_said
   fetch_shown digest count =
       let P : Fetch → Type 0 = Shows said_fetch (Msg.Fetch digest count) in

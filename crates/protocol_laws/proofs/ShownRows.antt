@@ -9,7 +9,7 @@ use native.Mathlib.Omega.{arith}
 use lib.Dec.{ltb, leb}
 use lib.ListN.{length, get_or}
 use borrow.Author.Tests.{ltb-false, leb-true}
-use Rattle.varint.specs.Formats.{Got, got, bad}
+use Rattle.varint.specs.Got.{Got}
 use Rattle.varint.specs.Gathering.{Held, held, lacks, text_held, name_held}
 use Rattle.varint.specs.Stores.{part}
 use Rattle.varint.specs.Utf8.{utf8}
@@ -35,6 +35,7 @@ use Rattle.protocol_laws.specs.Shown.{Entry, number, text, numbers, plain, words
 use Rattle.protocol_laws.proofs.HeldRows.{root_end}
 use Rattle.protocol_laws.proofs.ShownSaid.{numbers_append, text_said, tree_said, kids_said, id_said, claim_said, step_said, each, plainly}
 use Rattle.protocol_laws.proofs.Standing.{At, at_first, at_rest, at_cell, at_head, at_stored}
+use Rattle.std.specs.Prelude.{Ok, Err}
 
 pub held_weaker : {A : Type 0} (P Q : A → Type 0) (x : Held A) → HeldAs P x → ((a : A) → P a → Q a) → HeldAs Q x
 held_weaker P Q (held a) h k = k a h
@@ -191,8 +192,8 @@ unfolding held_in part
 tree_shown limit tx nd n = go (table limit nd n 0) refl (table_laid limit nd n 0)
   where
     go : (g : Got (Tree NameSpan)) → table limit nd n 0 ≡ g → GotAs (Laid limit 0 nd n) g → HeldAs (TreeShown limit tx nd n) (held_in g tx)
-    go (bad e) i o = tt
-    go (got st m) i o =
+    go (Err e) i o = tt
+    go (Ok (st, m)) i o =
         let u = root_name_lem (o.under (inl refl)) in
         let name : NameSpan = name_at nd n in
         let R : List ℕ = nodes_of st n name (cell nd n 3) in

@@ -24,11 +24,10 @@ use Rattle.protocol.specs.Said.{Said, said_startup, said_ready, said_error, said
 use Rattle.protocol.specs.Startup.{Claim, lay_claim, lay_startup}
 use Rattle.protocol.specs.Types.{Predicate, has_value, lay_value, lay_predicate, lay_types}
 use Rattle.protocol.specs.declared.message.ControlOp.TheVariants.{Create, Finish, Remove}
-use Rattle.protocol.specs.declared.message.Digest.{Digest}
-use Rattle.protocol.specs.declared.message.Digest.TheVariants.{Absent, Present}
-use Rattle.protocol.proofs.RowEnds.{predicate_rows, predicate_nodes}
+use Rattle.protocol.proofs.RowEnds.{predicate_nodes}
 use Rattle.protocol_laws.specs.Shown.{Entry, number, text, Shown, bare, rowed, digest_shown, lengths, numbers, text_needed, rows_needed, nodes_needed}
-use Rattle.protocol_laws.proofs.HeldRows.{rows_length, nodes_length}
+use Rattle.protocol_laws.proofs.HeldRows.{rows_length, nodes_length, predicate_rows}
+use Rattle.std.specs.Prelude.{Some, None, Option}
 
 -- a text with these bytes
 abbrev pub text_said : List ℕ → Entry
@@ -259,10 +258,10 @@ types_need l =
     let e = nodes_length lay_predicate predicate_nodes l 0 0 in
     (omega arith, b ∙ sym c, d ∙ sym e)
 
-digest_lengths : (d : Digest) (l : List Entry) → lengths (digest_shown d ++ l) ≡ lengths l
+digest_lengths : (d : Option ℕ) (l : List Entry) → lengths (digest_shown d ++ l) ≡ lengths l
 unfolding lengths
-digest_lengths Absent l = refl
-digest_lengths (Present d) l = refl
+digest_lengths None l = refl
+digest_lengths (Some d) l = refl
 
 -- what a message shows needs the memory that its layout takes
 pub said_needs : (m : Said) → Needs (shown_said m) (lay m).piece

@@ -9,7 +9,8 @@ use lib.ListN.{length, length-append, length-drop}
 use borrow.Author.Tests.{ltb-false}
 use Rattle.varint.specs.Choice.{pick}
 use Rattle.varint.specs.Fixed.{put_le}
-use Rattle.varint.specs.Formats.{Got, got, bad, Format, read_times, print_all, counted}
+use Rattle.varint.specs.Got.{Got, then}
+use Rattle.varint.specs.Formats.{Format, read_times, print_all, counted}
 use Rattle.varint.specs.Leb128.{put_u64}
 use Rattle.varint.specs.Stores.{part}
 use Rattle.varint.specs.declared.error.Mismatch.TheVariants as M
@@ -17,13 +18,14 @@ use Rattle.varint.specs.declared.error.Refusal.{Refusal}
 use Rattle.varint.specs.declared.error.Refusal.TheVariants.{UnexpectedEof, TypeMismatch, LengthOutOfRange, BlockTooLarge}
 use Rattle.varint.proofs.Basics.{pick_both, pick_cases}
 use Rattle.varint.proofs.FormatEnds.{Ends, varint_ends, fixed_ends, pair_ends, named_ends, total, times_ends, counted_ends}
-use Rattle.varint.proofs.FormatParts.{no_got, got_of, times_length}
+use Rattle.varint.proofs.FormatParts.{times_length}
+use Rattle.varint.proofs.Gots.{no_got, got_of}
 use Rattle.varint.proofs.StoreLaws.{length_part}
 use Rattle.desc.proofs.GotAs.{GotAs, got_as}
 use Rattle.protocol.specs.Codes.{mode_byte, mode_of, error_byte, error_of, op_byte, op_of}
 use Rattle.protocol.specs.Control.{to_control, from_control, control, read_control, lay_control}
 use Rattle.protocol.specs.Error.{to_error, from_error, error, read_error, lay_error}
-use Rattle.protocol.specs.Fields.{mode_got, mode, error_got, error_code, op_got, control_op, counted_to, raw, to_end}
+use Rattle.protocol.specs.Fields.{byte, made_at, mode, error_code, control_op, counted_to, raw, to_end}
 use Rattle.protocol.specs.Fetch.{to_fetch, from_fetch, max_fetch, digest_on, print_digest, digest, fetch, read_fetch, lay_fetch}
 use Rattle.protocol.specs.Ids.{id_width, lay_id, read_ids, lay_ids}
 use Rattle.protocol.specs.Page.{to_page, from_page, page, read_page, lay_page}
@@ -39,65 +41,44 @@ use Rattle.protocol.specs.Types.{read_types, type_width, lay_predicate, lay_type
 use Rattle.protocol.specs.Wholes.{ended}
 use Rattle.protocol.specs.declared.message.ControlOp.{ControlOp}
 use Rattle.protocol.specs.declared.message.ControlOp.TheVariants.{Create, Finish, Remove}
-use Rattle.protocol.specs.declared.message.Digest.{Digest}
-use Rattle.protocol.specs.declared.message.Digest.TheVariants.{Present}
-use Rattle.protocol.specs.declared.message.ErrorCode.{ErrorCode}
-use Rattle.protocol.specs.declared.message.MaybeControlOp.{MaybeControlOp}
-use Rattle.protocol.specs.declared.message.MaybeControlOp.TheVariants as MC
-use Rattle.protocol.specs.declared.message.MaybeErrorCode.{MaybeErrorCode}
-use Rattle.protocol.specs.declared.message.MaybeErrorCode.TheVariants as ME
-use Rattle.protocol.specs.declared.message.MaybeMode.{MaybeMode}
-use Rattle.protocol.specs.declared.message.MaybeMode.TheVariants as MM
-use Rattle.protocol.specs.declared.message.Mode.{Mode}
-use Rattle.protocol_laws.proofs.FieldsForth.{to_end_got}
-use Rattle.protocol_laws.proofs.HeldRows.{rows_length, nodes_length}
+use Rattle.protocol_laws.proofs.FieldsForth.{made_got, to_end_got}
+use Rattle.protocol_laws.proofs.HeldRows.{rows_length, nodes_length, predicate_rows}
 use Rattle.protocol_laws.proofs.MessagesForth.{ended_got, versioned_got}
 use Rattle.protocol.proofs.FieldEnds.{spared, name_ends, text_ends, byte_ends, chain_ends, then_ends, stays, flag_ends}
-use Rattle.protocol.proofs.RowEnds.{weight, claim_ends, step_ends, fact_ends, predicate_ends, predicate_rows, predicate_nodes}
+use Rattle.protocol.proofs.RowEnds.{weight, claim_ends, step_ends, fact_ends, predicate_ends, predicate_nodes}
+use Rattle.std.specs.Prelude.{Ok, Err, Result, Some, Option}
 
-mode_place : (x : MaybeMode) (p : ℕ) (m : Mode) (q : ℕ) → mode_got x p ≡ got m q → p ≡ q
-mode_place (MM.Known k) p m q e = (got_of e).1
-mode_place MM.Unknown p m q e = no_got e
-
-error_place : (x : MaybeErrorCode) (p : ℕ) (m : ErrorCode) (q : ℕ) → error_got x p ≡ got m q → p ≡ q
-error_place (ME.Known k) p m q e = (got_of e).1
-error_place ME.Unknown p m q e = no_got e
-
-op_place : (x : MaybeControlOp) (p : ℕ) (m : ControlOp) (q : ℕ) → op_got x p ≡ got m q → p ≡ q
-op_place (MC.Known k) p m q e = (got_of e).1
-op_place MC.Unknown p m q e = no_got e
+-- what a byte stands for
+coded_ends : {A : Type 0} (missing : Refusal) (of : ℕ → Result A Refusal) (print : A → List ℕ)
+    → Ends (record { read = λ s at. then ((byte missing).read s at) (λ b q. made_at (of b) q); print = print }) (λ a. 0) 1
+coded_ends missing of print =
+    chain_ends (λ b s p. made_at (of b) p) print (λ a. 0) (byte_ends missing) (λ s p b a q h e. stays h (made_got (of b) p a q e).1)
 
 mode_ends : Ends mode (λ m. 0) 1
-mode_ends =
-    chain_ends (λ b s p. mode_got (mode_of b) p) (λ m. mode_byte m ∷ []) (λ m. 0) (byte_ends (TypeMismatch M.Mode))
-    (λ s p b m q h e. stays h (mode_place (mode_of b) p m q e))
+mode_ends = coded_ends (TypeMismatch M.Mode) mode_of (λ m. mode_byte m ∷ [])
 
 code_ends : Ends error_code (λ m. 0) 1
-code_ends =
-    chain_ends (λ b s p. error_got (error_of b) p) (λ m. error_byte m ∷ []) (λ m. 0) (byte_ends (TypeMismatch M.ErrorCode))
-    (λ s p b m q h e. stays h (error_place (error_of b) p m q e))
+code_ends = coded_ends (TypeMismatch M.ErrorCode) error_of (λ m. error_byte m ∷ [])
 
 op_ends : Ends control_op (λ m. 0) 1
-op_ends =
-    chain_ends (λ b s p. op_got (op_of b) p) (λ m. op_byte m ∷ []) (λ m. 0) (byte_ends (TypeMismatch M.ControlOp))
-    (λ s p b m q h e. stays h (op_place (op_of b) p m q e))
+op_ends = coded_ends (TypeMismatch M.ControlOp) op_of (λ m. op_byte m ∷ [])
 
-digest_on_lem : (s : List ℕ) (p b : ℕ) (d : Digest) (q : ℕ) → p ≤ length s → digest_on b s p ≡ got d q → (p + 0 ≤ q) × (q ≤ length s)
+digest_on_lem : (s : List ℕ) (p b : ℕ) (d : Option ℕ) (q : ℕ) → p ≤ length s → digest_on b s p ≡ Ok (d, q) → (p + 0 ≤ q) × (q ≤ length s)
 digest_on_lem s p b d q h =
     pick_cases P (eqb b 0) (λ _ e. stays h (got_of e).1)
     (λ _. pick_cases P (eqb b 1)
-    (λ _. then_ends Present (λ d. 0) (λ d. refl) varint_ends s p d q h)
+    (λ _. then_ends Some (λ d. 0) (λ d. refl) varint_ends s p d q h)
     (λ _. no_got))
   where
-    P : Got Digest → Type 0
-    P x = x ≡ got d q → (p + 0 ≤ q) × (q ≤ length s)
+    P : Got (Option ℕ) → Type 0
+    P x = x ≡ Ok (d, q) → (p + 0 ≤ q) × (q ≤ length s)
 
 digest_ends : Ends digest (λ d. 0) 1
 digest_ends = chain_ends digest_on print_digest (λ d. 0) (byte_ends UnexpectedEof) digest_on_lem
 
 raw_ends : Ends raw length 4
 raw_ends =
-    chain_ends (λ n s p. pick (ltb (length s - p) n) (bad UnexpectedEof) (got (part s p n) (p + n))) (λ x. put_le 4 (length x) ++ x) length (fixed_ends 4)
+    chain_ends (λ n s p. pick (ltb (length s - p) n) (Err UnexpectedEof) (Ok (part s p n, p + n))) (λ x. put_le 4 (length x) ++ x) length (fixed_ends 4)
     (λ s p n x q h e.
     let y = spared (ltb (length s - p) n) _ _ e in
     let room = ltb-false (length s - p) n y.0 in
@@ -129,7 +110,7 @@ module _ {A : Type 0} {f : Format A} {k : ℕ} (piece : A → Piece) (F : Ends f
 
   counted_to_rows : (limit : List ℕ → ℕ) (why : ℕ → ℕ → Refusal) → Ends (counted_to limit why f) (λ l. weight (many piece l) + length l * k) 1
   counted_to_rows limit why =
-      chain_ends (λ n s p. pick (ltb (limit s) n) (bad (why n (limit s))) (read_times f n s p)) (λ l. put_u64 (length l) ++ print_all f l)
+      chain_ends (λ n s p. pick (ltb (limit s) n) (Err (why n (limit s))) (read_times f n s p)) (λ l. put_u64 (length l) ++ print_all f l)
       (λ l. weight (many piece l) + length l * k) varint_ends
       (λ s p n l q h e.
       let x = (spared (ltb (limit s) n) _ _ e).1 in
@@ -167,7 +148,7 @@ reply_text (created i) = length i
 reply_text (finished f) = 0
 reply_text removed = 0
 
-reply_on_lem : (check : Bool) (s : List ℕ) (p : ℕ) (o : ControlOp) (r : Reply) (q : ℕ) → p ≤ length s → reply_on check o s p ≡ got r q
+reply_on_lem : (check : Bool) (s : List ℕ) (p : ℕ) (o : ControlOp) (r : Reply) (q : ℕ) → p ≤ length s → reply_on check o s p ≡ Ok (r, q)
     → (p + reply_text r ≤ q) × (q ≤ length s)
 reply_on_lem check s p Create r q h e = then_ends created reply_text (λ i. refl) (name_ends check) s p r q h e
 reply_on_lem check s p Finish r q h e = then_ends finished reply_text (λ f. refl) finish_ends s p r q h e
@@ -210,12 +191,12 @@ module _ (check : Bool) (limit : ℕ) (s : List ℕ) where
   Fits m q = Small (lay m).piece (length s)
 
   -- a message all of whose readings fit
-  bare : {A : Type 0} (to : A → Said) (x : Got A) → ((a : A) (q : ℕ) → x ≡ got a q → Fits (to a) q) → GotAs Fits (saying to x)
-  bare to (got a q) h = h a q refl
-  bare to (bad e) h = tt
+  bare : {A : Type 0} (to : A → Said) (x : Got A) → ((a : A) (q : ℕ) → x ≡ Ok (a, q) → Fits (to a) q) → GotAs Fits (saying to x)
+  bare to (Ok (a, q)) h = h a q refl
+  bare to (Err e) h = tt
 
   module _ {A : Type 0} {f : Format A} {w : A → ℕ} {k : ℕ} (to : A → Said) (F : Ends f w k) (h : (a : A) → w a ≤ length s → Fits (to a) 0) where
-    at_all : (a : A) (q : ℕ) → f.read s 0 ≡ got a q → Fits (to a) 0
+    at_all : (a : A) (q : ℕ) → f.read s 0 ≡ Ok (a, q) → Fits (to a) 0
     at_all a q e = let i = F.ends s 0 a q (omega arith) e in let i₀ = i.0 in let i₁ = i.1 in h a (omega arith)
 
     -- bytes may follow it
@@ -260,7 +241,7 @@ module _ (check : Bool) (limit : ℕ) (s : List ℕ) where
       (words_small s (length s) (omega arith)))))))))))))
 
 -- A message of n bytes takes at most n bytes of text, 2 n numbers of rows and 7 n numbers of nodes.
-pub message_sizes : (check : Bool) (max limit entry : ℕ) (s : List ℕ) (m : Said) (q : ℕ) → read_message check max limit entry s ≡ got m q
+pub message_sizes : (check : Bool) (max limit entry : ℕ) (s : List ℕ) (m : Said) (q : ℕ) → read_message check max limit entry s ≡ Ok (m, q)
     → (length (lay m).piece.text ≤ length s) × (length ((lay m).piece.rows 0 0) ≤ 2 * length s) × (length ((lay m).piece.nodes 0 0) ≤ 7 * length s)
 unfolding read_message
 message_sizes check max limit entry s m q e =

@@ -1,5 +1,5 @@
 -- Which messages can be printed and read back: numbers fit their fields, texts are UTF-8, counts and descriptors are within their limits.
-use Rattle.std.specs.Prelude.{true, refl, List, [], ◌∷◌, ℕ, ◌^◌, ◌≤◌, ◌<◌, length, get_or}
+use Rattle.std.specs.Prelude.{true, refl, List, [], ◌∷◌, ℕ, ◌^◌, ◌≤◌, ◌<◌, length, get_or, Some, None, Option}
 use Rattle.std.proofs.Common.{arith, lit<}
 use Rattle.varint.specs.RoundTrips.{TextOk, ListOk}
 use Rattle.varint.specs.Utf8.{utf8, scan, lead}
@@ -14,8 +14,6 @@ use Rattle.protocol.specs.Startup.{Claim}
 use Rattle.protocol.specs.Types.{Predicate}
 use Rattle.protocol.specs.declared.message.ControlReply.{ControlReply}
 use Rattle.protocol.specs.declared.message.ControlReply.TheVariants as R
-use Rattle.protocol.specs.declared.message.Digest.{Digest}
-use Rattle.protocol.specs.declared.message.Digest.TheVariants.{Absent, Present}
 use Rattle.protocol.specs.declared.message.Message.{Message}
 use Rattle.protocol.specs.declared.message.Message.TheVariants as Msg
 
@@ -32,9 +30,9 @@ abbrev pub IfPresent : {A : Type 0} → (A → Type 0) → Optional A → Type 0
 IfPresent P absent = Unit
 IfPresent P (present a) = P a
 
-abbrev pub FineDigest : Digest → Type 0
-FineDigest Absent = Unit
-FineDigest (Present d) = Wide d
+abbrev pub FineDigest : Option ℕ → Type 0
+FineDigest None = Unit
+FineDigest (Some d) = Wide d
 
 abbrev pub FineReply : Reply → Type 0
 FineReply (created i) = TextOk i

@@ -1,6 +1,6 @@
 -- "Bytes to try": the lines about messages, behind those of the layers below.
-use Rattle.std.specs.Prelude.{true, List, [], ◌∷◌, ◌++◌, ℕ}
-use Rattle.varint.specs.Formats.{Got, got, bad}
+use Rattle.std.specs.Prelude.{true, List, [], ◌∷◌, ◌++◌, ℕ, Ok, Err, Some, None, Option}
+use Rattle.varint.specs.Got.{Got}
 use Rattle.varint.specs.Tried.{Line, refused_in}
 use Rattle.desc.specs.Tried.{desc_lines}
 use Rattle.protocol.specs.Codes.{mode_byte, error_byte, op_byte}
@@ -9,8 +9,6 @@ use Rattle.protocol.specs.Said.{Said, read_message, lay}
 use Rattle.protocol.specs.declared.message.ControlOp.TheVariants.{Create, Finish, Remove}
 use Rattle.protocol.specs.declared.message.ControlReply.{ControlReply}
 use Rattle.protocol.specs.declared.message.ControlReply.TheVariants.{Created, Finished, Removed}
-use Rattle.protocol.specs.declared.message.Digest.{Digest}
-use Rattle.protocol.specs.declared.message.Digest.TheVariants.{Absent, Present}
 use Rattle.protocol.specs.declared.message.Message.{Message}
 use Rattle.protocol.specs.declared.message.Message.TheVariants as Msg
 use Rattle.protocol.specs.declared.message.Span.{Span}
@@ -19,9 +17,9 @@ use Rattle.protocol.specs.declared.message.Span.{Span}
 abbrev pub span_in : Span → List ℕ
 span_in x = x.start ∷ x.len ∷ []
 
-abbrev pub digest_in : Digest → List ℕ
-digest_in Absent = 0 ∷ []
-digest_in (Present d) = 1 ∷ d ∷ []
+abbrev pub digest_in : Option ℕ → List ℕ
+digest_in None = 0 ∷ []
+digest_in (Some d) = 1 ∷ d ∷ []
 
 abbrev pub reply_in : ControlReply → List ℕ
 reply_in (Created instance) = op_byte Create ∷ span_in instance
@@ -46,8 +44,8 @@ fields_in (Msg.Opaque payload) = span_in payload
 
 -- an answer in numbers: a refusal; or 0 and the message's fields
 abbrev pub message_in : Got Said → List ℕ
-message_in (got m next) = 0 ∷ fields_in (lay m).message
-message_in (bad r) = refused_in r
+message_in (Ok (m, next)) = 0 ∷ fields_in (lay m).message
+message_in (Err r) = refused_in r
 
 abbrev pub message_line : ℕ → List ℕ → List ℕ → Line
 message_line entry bytes answer = record { reader = λ s. message_in (read_message true 67108864 64 entry s); bytes = bytes; answer = answer }

@@ -1,5 +1,5 @@
 -- Demand 2's two round trips. The limits are parameters: 67,108,864 bytes and 64 levels on the wire.
-use Rattle.std.specs.Prelude.{true, ◌≡◌, refl, List, [], ◌∷◌, ℕ, ◌-◌, ◌≤◌, ◌<◌, length, take, drop, replicate}
+use Rattle.std.specs.Prelude.{true, ◌≡◌, refl, List, [], ◌∷◌, ℕ, ◌-◌, ◌≤◌, ◌<◌, length, take, drop, replicate, Ok}
 use Rattle.std.proofs.Common.{arith, lit<}
 use Rattle.varint.specs.Gathering.{held, text_held, name_held}
 use Rattle.varint.specs.Leb128.{read_from, get_u64, put_by, put_u64}
@@ -8,14 +8,12 @@ use Rattle.varint.specs.RoundTrips.{Bytes}
 use Rattle.varint.specs.Stores.{part, filled}
 use Rattle.varint.specs.Texts.{skim_text, get_text, get_name}
 use Rattle.varint.specs.Utf8.{utf8, scan, lead}
-use Rattle.varint.specs.declared.Written.TheVariants.{Wrote}
 use Rattle.varint.specs.declared.error.Buffer.TheVariants.{Text, Rows, Nodes}
 use Rattle.varint.specs.declared.error.Refusal.TheVariants.{TooSmall}
 use Rattle.protocol.specs.Control.{read_control, lay_control, held_control}
 use Rattle.protocol.specs.Decoding.{Left, kept, fitted, settled, decode_message}
 use Rattle.protocol.specs.Encoding.{held_said, sent, encode_message}
 use Rattle.protocol.specs.Said.{Said, read_entry, read_message, print_said, lay, entry_of}
-use Rattle.protocol.specs.declared.message.Answer.TheVariants.{Accepted}
 use Rattle.protocol.specs.declared.message.ControlOp.TheVariants.{Finish}
 use Rattle.protocol.specs.declared.message.Message.{Message}
 use Rattle.protocol.specs.declared.message.Message.TheVariants as Msg
@@ -38,7 +36,7 @@ pub data Leaves (s : Shown) (t r k : List ℕ) : Left → Type 0 where
   same : text_needed s ≤ length t → rows_needed s ≤ length r → nodes_needed s ≤ length k
       → (m : Message) (t' r' k' : List ℕ) → shown m t' r' k' ≡ s
       → Cleared t (text_needed s) t' → Cleared r (rows_needed s) r' → Cleared k (nodes_needed s) k'
-      → Leaves s t r k (record { answer = Accepted m; text = t'; rows = r'; nodes = k' })
+      → Leaves s t r k (record { answer = Ok m; text = t'; rows = r'; nodes = k' })
 
 -- A message is encoded from the memory tx, rs and nd: out was lent, n bytes were written, and out' is what it holds then. What is assumed of the message
 -- and the memory is what their types say: numbers of 32 and 64 bits.
@@ -48,7 +46,7 @@ pub record Encoded (max limit : ℕ) (message : Message) (tx rs nd : List ℕ) (
   pub nodes : Wide (length nd)
   pub rows : Numbers rs
   pub out : List ℕ
-  pub sent : encode_message max limit message tx rs nd out ≡ record { answer = Wrote n; out = out' }
+  pub sent : encode_message max limit message tx rs nd out ≡ record { answer = Ok n; out = out' }
 
 -- Demand 2, first half: decoding an encoded message into buffers that suffice returns its fields and texts. The n bytes are decoded as a message of its
 -- number, into any buffers, with anything in them.
@@ -82,7 +80,7 @@ pub record Decoded (max limit : ℕ) (s : List ℕ) (message : Message) (tx rs n
   pub t : List ℕ
   pub r : List ℕ
   pub k : List ℕ
-  pub left : decode_message max limit entry s t r k ≡ record { answer = Accepted message; text = tx; rows = rs; nodes = nd }
+  pub left : decode_message max limit entry s t r k ≡ record { answer = Ok message; text = tx; rows = rs; nodes = nd }
 
 -- Demand 2, second half: for startup, ready, complete, page, fetch and listing digest encoding what was decoded returns the bytes. Out is s and then zeros;
 -- or, where s does not fit, as it was, and the answer is 16(5) with the length of s.

@@ -1,6 +1,6 @@
 -- What a message shows whoever holds it with its memory: each number as a number, and each text by its length and its bytes. Where a text starts is
 -- not shown: "Texts may overlap or stand in any order in text; decoding gives them joined." Two messages are the same exactly if they show the same.
-use Rattle.std.specs.Prelude.{◌≡◌, refl, List, [], ◌∷◌, ◌++◌, ℕ, zero, suc, ◌+◌, ◌*◌, eqb, get_or}
+use Rattle.std.specs.Prelude.{◌≡◌, refl, List, [], ◌∷◌, ◌++◌, ℕ, zero, suc, ◌+◌, ◌*◌, eqb, get_or, Some, None, Option}
 use Rattle.varint.specs.Choice.{pick}
 use Rattle.varint.specs.Stores.{part}
 use Rattle.desc.specs.Layout.{end_at}
@@ -10,8 +10,6 @@ use Rattle.protocol.specs.Fields.{bit}
 use Rattle.protocol.specs.declared.message.ControlOp.TheVariants.{Create, Finish, Remove}
 use Rattle.protocol.specs.declared.message.ControlReply.{ControlReply}
 use Rattle.protocol.specs.declared.message.ControlReply.TheVariants.{Created, Finished, Removed}
-use Rattle.protocol.specs.declared.message.Digest.{Digest}
-use Rattle.protocol.specs.declared.message.Digest.TheVariants.{Absent, Present}
 use Rattle.protocol.specs.declared.message.ErrorCode.TheVariants.{UnknownDatabase}
 use Rattle.protocol.specs.declared.message.Message.{Message}
 use Rattle.protocol.specs.declared.message.Message.TheVariants as Msg
@@ -93,9 +91,9 @@ bare entry fields = record { entry = entry; fields = fields; rows = []; nodes = 
 abbrev pub rowed : ℕ → List Entry → List Entry → Shown
 rowed entry fields rows = record { entry = entry; fields = fields; rows = rows; nodes = [] }
 
-abbrev pub digest_shown : Digest → List Entry
-digest_shown Absent = number 0 ∷ []
-digest_shown (Present d) = number 1 ∷ number d ∷ []
+abbrev pub digest_shown : Option ℕ → List Entry
+digest_shown None = number 0 ∷ []
+digest_shown (Some d) = number 1 ∷ number d ∷ []
 
 -- "A control reply is created, finished or removed, each with its own fields"
 abbrev pub reply_shown : List ℕ → ControlReply → List Entry

@@ -8,13 +8,10 @@ use lib.Seq.{sets}
 use Rattle.varint.specs.Gathering.{Held, held, lacks}
 use Rattle.varint.specs.Outs.{declared, send}
 use Rattle.varint.specs.Stores.{clear_from}
-use Rattle.varint.specs.declared.Written.TheVariants.{Wrote, Refused as NotWritten}
 use Rattle.varint.specs.declared.error.Buffer.TheVariants.{Out}
 use Rattle.varint.specs.declared.error.Refusal.{Refusal}
 use Rattle.varint.specs.declared.error.Refusal.TheVariants.{BlockTooLarge, TooSmall}
 use Rattle.desc.specs.Emitting.{Pen, put_bytes, verdict}
-use Rattle.desc.specs.declared.write.Names.{Names}
-use Rattle.desc.specs.declared.write.Names.TheVariants.{Good, Refused}
 use Rattle.desc.proofs.EmitPrint.{Roomy}
 use Rattle.desc.proofs.EmitWhole.{refused_of}
 use Rattle.protocol.specs.Encoding.{held_said, sent, encode_message}
@@ -26,23 +23,24 @@ use Rattle.protocol_write.proofs.MessagePrints.{write_said}
 use Rattle.protocol_write.proofs.Printing.{Prints}
 use Rattle.protocol_write.proofs.Sends.{send_big, send_small, send_done}
 use Rattle.protocol_write.proofs.Verdicts.{fine_said}
+use Rattle.std.specs.Prelude.{Ok, Err, Result}
 
 -- what is said
 record Whole {A : Type 0} (H : Held A) : Type 0 where
   value : A
   is : H ≡ held value
 
-whole : {A : Type 0} (H : Held A) → verdict H ≡ Good → Whole H
+whole : {A : Type 0} (H : Held A) → verdict H ≡ Ok tt → Whole H
 unfolding verdict
 whole (held a) h = record { value = a; is = refl }
 whole (lacks e) h = let z : ◌≡◌ {A = ℕ} 0 1 = cc in absurd (omega arith)
 
-module _ (max limit : ℕ) (m : Message) (tx rs nd d : List ℕ) (v : Names) (tests : v ≡ fine limit m tx rs nd) where
-  pub encode_refused : (e : Refusal) → v ≡ Refused e → record { answer = NotWritten e; out = d } ≡ encode_message max limit m tx rs nd d
+module _ (max limit : ℕ) (m : Message) (tx rs nd d : List ℕ) (v : Result (Unit {0}) Refusal) (tests : v ≡ fine limit m tx rs nd) where
+  pub encode_refused : (e : Refusal) → v ≡ Err e → record { answer = Err e; out = d } ≡ encode_message max limit m tx rs nd d
   unfolding encode_message sent
   encode_refused e h = rw (refused_of (held_said limit m tx rs nd) e (fine_said limit tx rs nd m ∙ sym tests ∙ h))
 
-  module _ (good : v ≡ Good) where
+  module _ (good : v ≡ Ok tt) where
     said : Whole (held_said limit m tx rs nd)
     said = whole (held_said limit m tx rs nd) (fine_said limit tx rs nd m ∙ sym tests ∙ good)
 
@@ -65,16 +63,16 @@ module _ (max limit : ℕ) (m : Message) (tx rs nd d : List ℕ) (v : Names) (te
           let e : 0 + length bytes ≡ length bytes = omega arith in
           size ∙ ap (λ (k : Pen). k.place) (prints.stores s r) ∙ ap declared e
 
-      pub encode_big : max < n → record { answer = NotWritten (BlockTooLarge n max); out = d } ≡ encode_message max limit m tx rs nd d
+      pub encode_big : max < n → record { answer = Err (BlockTooLarge n max); out = d } ≡ encode_message max limit m tx rs nd d
       encode_big h = send_big max bytes d n size_is h ∙ sends
 
       module _ (small : n ≤ max) (bound : max ≤ 4294967296) where
-        pub encode_small : length d < n → record { answer = NotWritten (TooSmall Out n); out = d } ≡ encode_message max limit m tx rs nd d
+        pub encode_small : length d < n → record { answer = Err (TooSmall Out n); out = d } ≡ encode_message max limit m tx rs nd d
         encode_small h = send_small max bytes d n size_is small bound h ∙ sends
 
         pub encode_done : (d₁ d₂ : List ℕ) (a : ℕ) → length d < 18446744073709551616 → n ≤ length d
             → record { out = d₁; place = a } ≡ put_message limit m tx rs nd (record { out = d; place = 0 }) → d₂ ≡ clear_from d₁ n
-            → record { answer = Wrote n; out = d₂ } ≡ encode_message max limit m tx rs nd d
+            → record { answer = Ok n; out = d₂ } ≡ encode_message max limit m tx rs nd d
         unfolding put_bytes
         encode_done d₁ d₂ a l h is c =
             let s : Pen = record { out = d; place = 0 } in

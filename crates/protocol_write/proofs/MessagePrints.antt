@@ -35,8 +35,6 @@ use Rattle.protocol.specs.declared.message.ControlOp.{ControlOp}
 use Rattle.protocol.specs.declared.message.ControlOp.TheVariants.{Create, Finish, Remove}
 use Rattle.protocol.specs.declared.message.ControlReply.{ControlReply}
 use Rattle.protocol.specs.declared.message.ControlReply.TheVariants as R
-use Rattle.protocol.specs.declared.message.Digest.{Digest}
-use Rattle.protocol.specs.declared.message.Digest.TheVariants.{Absent, Present}
 use Rattle.protocol.specs.declared.message.ErrorCode.{ErrorCode}
 use Rattle.protocol.specs.declared.message.Message.{Message}
 use Rattle.protocol.specs.declared.message.Message.TheVariants as Msg
@@ -46,6 +44,7 @@ use Rattle.protocol.specs.declared.message.Span.{Span}
 use Rattle.protocol_write.specs.Inner.Writing.{put_two, put_counted, put_tagged, put_startup, put_control, put_finished, put_reply, put_page, put_digest, put_message}
 use Rattle.protocol_write.proofs.Printing.{took, held_same, Prints, prints_then, prints_number, prints_two, prints_byte, prints_flag, prints_fixed, fixed_same, prints_text}
 use Rattle.protocol_write.proofs.RowPrints.{claim_prints, step_prints, id_prints, pair_prints, type_prints, counted_prints}
+use Rattle.std.specs.Prelude.{Some, None, Option}
 
 -- what is held has passed the test before it
 past_lack : {A : Type 0} (t : Bool) (x : Refusal) (h : Held A) (a : A) → pick t (lacks x) h ≡ held a → (t ≡ false) × (h ≡ held a)
@@ -139,10 +138,10 @@ page_prints most cursor query tx m e =
     c.1)
     (name_prints tx query.start query.len b.value b.is)))
 
-digest_prints : (d : Digest) → Prints (put_digest d) (print_digest d)
+digest_prints : (d : Option ℕ) → Prints (put_digest d) (print_digest d)
 unfolding put_digest
-digest_prints Absent = prints_byte 0
-digest_prints (Present d) = prints_then (prints_byte 1) (prints_number d)
+digest_prints None = prints_byte 0
+digest_prints (Some d) = prints_then (prints_byte 1) (prints_number d)
 
 three_prints : (u v w : ℕ) → Prints (λ s. put_number w (put_two u v s)) (put_u64 u ++ (put_u64 v ++ put_u64 w))
 unfolding put_two
@@ -196,7 +195,7 @@ module _ (limit : ℕ) (tx rs nd : List ℕ) where
       let a = took N (λ _. L) m (past_good good _ (then_held N (λ _. L)) m h.1) in
       counted_prints (predicate true 0) (held_predicate limit tx rs nd) K.Predicate limit tx rs nd (type_prints limit tx rs nd) count m h.0 a.rest
 
-  fetch_prints : (digest : Digest) (count : ℕ) (m : Fetch) → held_fetch digest count rs ≡ held m
+  fetch_prints : (digest : Option ℕ) (count : ℕ) (m : Fetch) → held_fetch digest count rs ≡ held m
       → Prints (λ s. put_counted K.Pair limit tx rs nd count (put_digest digest s)) (fetch.print m)
   unfolding held_fetch
   fetch_prints digest count m e =

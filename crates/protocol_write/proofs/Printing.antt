@@ -7,7 +7,8 @@ use native.Mathlib.Omega.{arith}
 use lib.ListN.{length}
 use Rattle.varint.specs.Choice.{pick}
 use Rattle.varint.specs.Fixed.{put_le}
-use Rattle.varint.specs.Formats.{Got, got, bad, Format, print_text, print_all}
+use Rattle.varint.specs.Got.{Got}
+use Rattle.varint.specs.Formats.{Format, print_text, print_all}
 use Rattle.varint.specs.Gathering.{Held, held, lacks, then_held, name_held}
 use Rattle.varint.specs.Leb128.{put_by, put_u64}
 use Rattle.varint.proofs.Basics.{clash}
@@ -22,6 +23,7 @@ use Rattle.protocol.specs.Rows.{width_of}
 use Rattle.protocol.specs.RowsHeld.{held_times}
 use Rattle.protocol.specs.declared.message.RowKind.{RowKind}
 use Rattle.protocol_write.specs.Inner.Writing.{put_byte, put_flag, put_fixed, put_two, put_text, put_at, put_row, put_rows}
+use Rattle.std.specs.Prelude.{Ok, Err}
 
 -- what the memory holds, taken apart
 pub record Took {A B : Type 0} (h : Held A) (k : A → Held B) (b : B) : Type 0 where
@@ -93,8 +95,8 @@ prints_text tx start len x e =
 
 pub prints_tree : (tx : List ℕ) (D : Got (Tree NameSpan)) (u : Tree (List ℕ)) → held_in D tx ≡ held u → Prints (put_at tx D) (print u)
 unfolding held_in put_at
-prints_tree tx (got t e) u h = record { stores = λ s r. put_print tx t u s h r }
-prints_tree tx (bad x) u h = let z : ◌≡◌ {A = ℕ} 0 1 = cc in absurd (omega arith)
+prints_tree tx (Ok (t, e)) u h = record { stores = λ s r. put_print tx t u s h r }
+prints_tree tx (Err x) u h = let z : ◌≡◌ {A = ℕ} 0 1 = cc in absurd (omega arith)
 
 -- Rows
 

@@ -10,14 +10,13 @@ use borrow.Author.Tests.{lt-ltb, ltb-true, ltb-false}
 use Rattle.varint.specs.declared.error.Refusal.{Refusal}
 use Rattle.varint.proofs.Basics.{test}
 use Rattle.desc.specs.Emitting.{Pen, then_names}
-use Rattle.desc.specs.declared.write.Names.{Names}
-use Rattle.desc.specs.declared.write.Names.TheVariants.{Good, Refused}
 use Rattle.protocol.specs.Rows.{width_of}
 use Rattle.protocol.specs.RowsHeld.{all_good}
 use Rattle.protocol.specs.declared.message.RowKind.{RowKind}
 use Rattle.protocol.specs.declared.message.RowKind.TheVariants.{Claim, Id, Predicate, Step, Pair}
 use Rattle.protocol_write.specs.Inner.Checking.{row_names, rows_names}
 use Rattle.protocol_write.specs.Inner.Writing.{put_row, put_rows}
+use Rattle.std.specs.Prelude.{Result, Ok, Err}
 
 pub width_some : (kind : RowKind) → 0 < width_of kind
 width_some Claim = omega arith
@@ -50,11 +49,10 @@ next_row w (suc left) r n p h =
 
 module _ (kind : RowKind) (limit : ℕ) (tx rs nd : List ℕ) where
   -- a row is written
-  pub put_turn : (left r w : ℕ) (s s₁ : Pen) → 0 < left → w ≡ width_of kind → s₁ ≡ put_row kind limit tx rs nd r s
-      → put_rows kind limit tx rs nd left r s ≡ put_rows kind limit tx rs nd (left - 1) (r + w) s₁
+  pub put_turn : (count i r w : ℕ) (s s₁ : Pen) → i < count → w ≡ width_of kind → s₁ ≡ put_row kind limit tx rs nd r s
+      → put_rows kind limit tx rs nd (count - i) r s ≡ put_rows kind limit tx rs nd (count - (i + 1)) (r + w) s₁
   unfolding put_rows
-  put_turn zero r w s s₁ p e h = absurd (omega arith)
-  put_turn (suc left) r w s s₁ p e h = let l : suc left - 1 ≡ left = omega arith in rw (l, e, h)
+  put_turn count i r w s s₁ p e h = let l : count - i ≡ suc (count - (i + 1)) = omega arith in rw (l, e, h)
 
   pub put_end : (left r : ℕ) (s : Pen) → left ≤ 0 → put_rows kind limit tx rs nd left r s ≡ s
   unfolding put_rows
@@ -68,16 +66,16 @@ module _ (kind : RowKind) (limit : ℕ) (tx rs nd : List ℕ) where
   names_turn zero r w p e = absurd (omega arith)
   names_turn (suc left) r w p e = let l : suc left - 1 ≡ left = omega arith in rw (l, e)
 
-  module _ (left r w : ℕ) (v : Names) (p : 0 < left) (e : w ≡ width_of kind) (is : v ≡ row_names kind limit tx rs nd r) where
-    pub row_named : v ≡ Good → rows_names kind limit tx rs nd left r ≡ rows_names kind limit tx rs nd (left - 1) (r + w)
+  module _ (left r w : ℕ) (v : Result (Unit {0}) Refusal) (p : 0 < left) (e : w ≡ width_of kind) (is : v ≡ row_names kind limit tx rs nd r) where
+    pub row_named : v ≡ Ok tt → rows_names kind limit tx rs nd left r ≡ rows_names kind limit tx rs nd (left - 1) (r + w)
     unfolding then_names
     row_named g = names_turn left r w p e ∙ rw (← is, g)
 
-    pub row_refused : (x : Refusal) → v ≡ Refused x → rows_names kind limit tx rs nd left r ≡ Refused x
+    pub row_refused : (x : Refusal) → v ≡ Err x → rows_names kind limit tx rs nd left r ≡ Err x
     unfolding then_names
     row_refused x g = names_turn left r w p e ∙ rw (← is, g)
 
-  pub names_end : (left r : ℕ) → left ≤ 0 → rows_names kind limit tx rs nd left r ≡ Good
+  pub names_end : (left r : ℕ) → left ≤ 0 → rows_names kind limit tx rs nd left r ≡ Ok tt
   unfolding rows_names
   names_end zero r h = refl
   names_end (suc left) r h = absurd (omega arith)
@@ -101,8 +99,8 @@ module _ (good : ℕ → Bool) where
   good_end (suc left) r v h = absurd (omega arith)
 
 -- ids and pairs have no text
-pub no_names : (kind : RowKind) (limit : ℕ) (tx rs nd : List ℕ) → ((r : ℕ) → row_names kind limit tx rs nd r ≡ Good)
-    → (n r : ℕ) → rows_names kind limit tx rs nd n r ≡ Good
+pub no_names : (kind : RowKind) (limit : ℕ) (tx rs nd : List ℕ) → ((r : ℕ) → row_names kind limit tx rs nd r ≡ Ok tt)
+    → (n r : ℕ) → rows_names kind limit tx rs nd n r ≡ Ok tt
 unfolding rows_names then_names
 no_names kind limit tx rs nd h zero r = refl
 no_names kind limit tx rs nd h (suc n) r = rw (h r) (no_names kind limit tx rs nd h n (r + width_of kind))

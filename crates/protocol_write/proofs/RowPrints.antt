@@ -62,9 +62,12 @@ module _ (limit : ℕ) (tx rs nd : List ℕ) where
       let q : get_or rs r 0 ≡ i = held_same e in
       rw (← q) (prints_two (get_or rs r 0 / 1099511627776) (get_or rs r 0 % 1099511627776))
 
-  -- a type's value, by whether there is one
-  value_prints : (has key : ℕ) (v : Optional (Tree (List ℕ)))
-      → pick (yes has) (then_held (held_in (table limit nd (cell nd key 6) 0) tx) (λ u. held (present u))) (held absent) ≡ held v
+  -- what a type's row says of its value
+  abbrev value_held : (has key : ℕ) → Held (Optional (Tree (List ℕ)))
+  value_held has key = pick (yes has) (then_held (held_in (table limit nd (cell nd key 6) 0) tx) (λ u. held (present u))) (held absent)
+
+  -- by whether there is one
+  value_prints : (has key : ℕ) (v : Optional (Tree (List ℕ))) → value_held has key ≡ held v
       → Prints (put_value limit tx nd has key) (print_optional (descriptor true 0) v)
   unfolding put_value
   value_prints has key v e = go (yes has) e
@@ -78,29 +81,31 @@ module _ (limit : ℕ) (tx rs nd : List ℕ) where
           (prints_then (prints_wide true) (prints_tree tx (table limit nd (cell nd key 6) 0) a.value a.is))
       go false h = let q : absent ≡ v = held_same h in rw (← q) (prints_wide false)
 
+  -- the type that it holds
+  abbrev type_of : (r : ℕ) (x : List ℕ) (k : Tree (List ℕ)) → Optional (Tree (List ℕ)) → Predicate
+  type_of r x k v = record { id = get_or rs r 0; name = x; virtual = yes (get_or rs (r + 3) 0); key = k; value = v }
+
+  fields_print : (r : ℕ) (x : List ℕ) (k : Tree (List ℕ)) (v : Optional (Tree (List ℕ))) → name_held tx (get_or rs (r + 1) 0) (get_or rs (r + 2) 0) ≡ held x
+      → held_in (table limit nd (get_or rs (r + 5) 0) 0) tx ≡ held k → value_held (get_or rs (r + 4) 0) (get_or rs (r + 5) 0) ≡ held v
+      → Prints (put_row K.Predicate limit tx rs nd r) ((predicate true 0).print (type_of r x k v))
+  unfolding put_row put_type
+  fields_print r x k v named keyed valued =
+      prints_then (prints_number (get_or rs r 0))
+      (prints_then (prints_text tx (get_or rs (r + 1) 0) (get_or rs (r + 2) 0) x named)
+      (prints_then (prints_wide (yes (get_or rs (r + 3) 0)))
+      (prints_then (prints_tree tx (table limit nd (get_or rs (r + 5) 0) 0) k keyed) (value_prints (get_or rs (r + 4) 0) (get_or rs (r + 5) 0) v valued))))
+
   pub type_prints : (r : ℕ) (p : Predicate) → held_predicate limit tx rs nd r ≡ held p → Prints (put_row K.Predicate limit tx rs nd r) ((predicate true 0).print p)
-  unfolding held_predicate put_row put_type
+  unfolding held_predicate
   type_prints r p e =
-      let id = get_or rs r 0 in
-      let has = get_or rs (r + 4) 0 in
-      let key = get_or rs (r + 5) 0 in
-      let virtual = yes (get_or rs (r + 3) 0) in
-      let W : Held (Optional (Tree (List ℕ))) = pick (yes has) (then_held (held_in (table limit nd (cell nd key 6) 0) tx) (λ u. held (present u))) (held absent) in
-      let a =
-      took (name_held tx (get_or rs (r + 1) 0) (get_or rs (r + 2) 0))
-      (λ x. then_held (held_in (table limit nd key 0) tx) (λ k. then_held W (λ v. held (record { id = id; name = x; virtual = virtual; key = k; value = v })))) p e
-      in
-      let b =
-      took (held_in (table limit nd key 0) tx)
-      (λ k. then_held W (λ v. held (record { id = id; name = a.value; virtual = virtual; key = k; value = v }))) p a.rest
-      in
-      let d = took W (λ v. held (record { id = id; name = a.value; virtual = virtual; key = b.value; value = v })) p b.rest in
-      let q : record { id = id; name = a.value; virtual = virtual; key = b.value; value = d.value } ≡ p = held_same d.rest in
-      rw (← q)
-      (prints_then (prints_number id)
-      (prints_then (prints_text tx (get_or rs (r + 1) 0) (get_or rs (r + 2) 0) a.value a.is)
-      (prints_then (prints_wide virtual)
-      (prints_then (prints_tree tx (table limit nd key 0) b.value b.is) (value_prints has key d.value d.is)))))
+      let N = name_held tx (get_or rs (r + 1) 0) (get_or rs (r + 2) 0) in
+      let K = held_in (table limit nd (get_or rs (r + 5) 0) 0) tx in
+      let V = value_held (get_or rs (r + 4) 0) (get_or rs (r + 5) 0) in
+      let a = took N (λ x. then_held K (λ k. then_held V (λ v. held (type_of r x k v)))) p e in
+      let b = took K (λ k. then_held V (λ v. held (type_of r a.value k v))) p a.rest in
+      let d = took V (λ v. held (type_of r a.value b.value v)) p b.rest in
+      let q : type_of r a.value b.value d.value ≡ p = held_same {a = type_of r a.value b.value d.value} d.rest in
+      rw (← q) (fields_print r a.value b.value d.value a.is b.is d.is)
 
 -- a count and so many rows
 pub counted_prints : {A : Type 0} (f : Format A) (row : ℕ → Held A) (kind : RowKind) (limit : ℕ) (tx rs nd : List ℕ)

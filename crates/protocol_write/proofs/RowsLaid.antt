@@ -7,14 +7,13 @@ use lib.Dec.{eqb}
 use lib.ListN.{get_or}
 use borrow.Author.Tests.{eqb-true, ne_eqb}
 use Rattle.varint.specs.Choice.{pick}
-use Rattle.varint.specs.Formats.{Got, got, bad}
+use Rattle.varint.specs.Got.{Got}
 use Rattle.varint.specs.Gathering.{Held, held, lacks}
 use Rattle.varint.proofs.Basics.{test}
 use Rattle.desc.specs.Emitting.{verdict}
 use Rattle.desc.specs.Layout.{NameSpan, end_at}
 use Rattle.desc.specs.Table.{cell, table}
 use Rattle.desc.specs.Trees.{Tree}
-use Rattle.desc.specs.declared.write.Names.TheVariants.{Good}
 use Rattle.protocol.specs.Fields.{yes}
 use Rattle.protocol.specs.Rows.{width_of}
 use Rattle.protocol.specs.Types.{node_after, type_laid, types_laid}
@@ -23,6 +22,7 @@ use Rattle.protocol.specs.declared.message.RowKind.TheVariants.{Claim, Id, Predi
 use Rattle.protocol_write.specs.Inner.Checking.{nodes_fine, LaidAt, ValueLaid, RowLaid}
 use Rattle.protocol_write.proofs.NodeChecks.{Ends, table_end}
 use Rattle.protocol_write.proofs.Printing.{took}
+use Rattle.std.specs.Prelude.{Ok, Err}
 
 module _ (limit : ℕ) (rs nd : List ℕ) where
   -- the nodes of so many rows from number r on are laid out
@@ -41,8 +41,8 @@ module _ (limit : ℕ) (rs nd : List ℕ) where
   after_held n m h = go (table limit nd n 0) refl h (table_end limit nd n 0)
     where
       go : (D : Got (Tree NameSpan)) → table limit nd n 0 ≡ D → node_after D ≡ held m → Ends nd n D → LaidAt limit nd n × (cell nd n end_at ≡ m)
-      go (got t e) i k l = let p : e ≡ m = cc in (record { tree = t; next = e; is = i }, l ∙ p)
-      go (bad x) i k l = let z : ◌≡◌ {A = ℕ} 0 1 = cc in absurd (omega arith)
+      go (Ok (t, e)) i k l = let p : e ≡ m = cc in (record { tree = t; next = e; is = i }, l ∙ p)
+      go (Err x) i k l = let z : ◌≡◌ {A = ℕ} 0 1 = cc in absurd (omega arith)
 
   -- a value whose root is node k, where the key at node n ends
   value_held : (has n k m : ℕ) → cell nd n end_at ≡ k → pick (yes has) (node_after (table limit nd k 0)) (held k) ≡ held m → ValueLaid limit nd has n
@@ -74,13 +74,13 @@ module _ (limit : ℕ) (rs nd : List ℕ) where
   no_nodes kind h (suc left) r = (h r, no_nodes kind h left (r + width_of kind))
 
   -- the test of all nodes
-  pub rows_laid : (kind : RowKind) (count : ℕ) → nodes_fine kind limit rs nd count ≡ Good → RowsLaid kind count 0
+  pub rows_laid : (kind : RowKind) (count : ℕ) → nodes_fine kind limit rs nd count ≡ Ok tt → RowsLaid kind count 0
   unfolding nodes_fine verdict
   rows_laid Claim count h = no_nodes Claim (λ r. tt) count 0
   rows_laid Id count h = no_nodes Id (λ r. tt) count 0
   rows_laid Predicate count h = go (types_laid limit rs nd count 0 0) refl h
     where
-      go : (H : Held ℕ) → types_laid limit rs nd count 0 0 ≡ H → verdict H ≡ Good → RowsLaid Predicate count 0
+      go : (H : Held ℕ) → types_laid limit rs nd count 0 0 ≡ H → verdict H ≡ Ok tt → RowsLaid Predicate count 0
       go (held m) i g = types_held count 0 0 m i
       go (lacks x) i g = let z : ◌≡◌ {A = ℕ} 0 1 = cc in absurd (omega arith)
   rows_laid Step count h = no_nodes Step (λ r. tt) count 0

@@ -14,8 +14,6 @@ use Rattle.desc.specs.Emitting.{verdict, then_names}
 use Rattle.desc.specs.Encoding.{held_in}
 use Rattle.desc.specs.Table.{cell, table}
 use Rattle.desc.specs.Trees.{Tree}
-use Rattle.desc.specs.declared.write.Names.{Names}
-use Rattle.desc.specs.declared.write.Names.TheVariants.{Good, Refused}
 use Rattle.protocol.specs.Control.{held_control}
 use Rattle.protocol.specs.Encoding.{held_said}
 use Rattle.protocol.specs.Error.{held_error}
@@ -37,10 +35,12 @@ use Rattle.protocol.specs.declared.message.RowKind.{RowKind}
 use Rattle.protocol.specs.declared.message.RowKind.TheVariants as K
 use Rattle.protocol_write.specs.Inner.Checking.{row_good, numbers_fine, nodes_fine, value_names, row_names, rows_names, rows_fine, reply_fine, startup_fine, fetch_fine, fine}
 use Rattle.protocol_write.proofs.RowLoops.{no_names}
+use Rattle.std.specs.Prelude.{Result, Ok, Err}
+use Rattle.varint.specs.Texts.{span}
 
 -- Verdicts of what is taken out of memory one after the other
 
-verdict_then : {A B : Type 0} (H : Held A) (k : A → Held B) (v : Names) → ((a : A) → verdict (k a) ≡ v) → verdict (then_held H k) ≡ then_names (verdict H) v
+verdict_then : {A B : Type 0} (H : Held A) (k : A → Held B) (v : Result (Unit {0}) Refusal) → ((a : A) → verdict (k a) ≡ v) → verdict (then_held H k) ≡ then_names (verdict H) v
 unfolding verdict then_names
 verdict_then (held a) k v h = h a
 verdict_then (lacks e) k v h = refl
@@ -60,23 +60,23 @@ verdict_two : {A B C : Type 0} (H : Held A) (K : Held B) (f : A → B → C)
 verdict_two H K f = verdict_then H (λ a. then_held K (λ b. held (f a b))) (verdict K) (λ a. verdict_as K (f a))
 
 -- what comes after the tests of the rows' count and of their numbers
-verdict_rows : {A : Type 0} (few good : Bool) (e n : Refusal) (H : Held A) (v : Names) → verdict H ≡ v
-    → verdict (pick few (lacks e) (pick good H (lacks n))) ≡ pick few (Refused e) (pick good v (Refused n))
+verdict_rows : {A : Type 0} (few good : Bool) (e n : Refusal) (H : Held A) (v : Result (Unit {0}) Refusal) → verdict H ≡ v
+    → verdict (pick few (lacks e) (pick good H (lacks n))) ≡ pick few (Err e) (pick good v (Err n))
 unfolding verdict
 verdict_rows true good e n H v h = refl
 verdict_rows false true e n H v h = h
 verdict_rows false false e n H v h = refl
 
 -- the test of the rows' count may be made again
-verdict_again : {A B C : Type 0} (few : Bool) (e : Refusal) (N : Held A) (L : Held B) (f : A → B → C) (v : Names) → verdict L ≡ v
-    → verdict (pick few (lacks e) (then_held N (λ a. then_held L (λ b. held (f a b))))) ≡ pick few (Refused e) (then_names (verdict N) (pick few (Refused e) v))
+verdict_again : {A B C : Type 0} (few : Bool) (e : Refusal) (N : Held A) (L : Held B) (f : A → B → C) (v : Result (Unit {0}) Refusal) → verdict L ≡ v
+    → verdict (pick few (lacks e) (then_held N (λ a. then_held L (λ b. held (f a b))))) ≡ pick few (Err e) (then_names (verdict N) (pick few (Err e) v))
 unfolding verdict
 verdict_again true e N L f v h = refl
 verdict_again false e N L f v h = verdict_two N L f ∙ ap (then_names (verdict N)) h
 
 -- rows that lack nothing, and a test after that of their count
-verdict_over : {A B : Type 0} (few over : Bool) (e x : Refusal) (L : Held A) (f : A → B) (v : Names) → verdict L ≡ Good → v ≡ Good
-    → verdict (pick few (lacks e) (pick over (lacks x) (then_held L (λ l. held (f l))))) ≡ then_names (pick few (Refused e) v) (pick over (Refused x) Good)
+verdict_over : {A B : Type 0} (few over : Bool) (e x : Refusal) (L : Held A) (f : A → B) (v : Result (Unit {0}) Refusal) → verdict L ≡ Ok tt → v ≡ Ok tt
+    → verdict (pick few (lacks e) (pick over (lacks x) (then_held L (λ l. held (f l))))) ≡ then_names (pick few (Err e) v) (pick over (Err x) (Ok tt))
 unfolding verdict then_names
 verdict_over true over e x L f v h g = refl
 verdict_over false true e x L f v h g = rw g
@@ -88,7 +88,7 @@ module _ (limit : ℕ) (tx rs nd : List ℕ) where
   unfolding value_names verdict
   value_verdict has key =
       let D : Held (Tree (List ℕ)) = held_in (table limit nd (cell nd key 6) 0) tx in
-      verdict_pick (yes has) (then_held D (λ v. held (present v))) (held absent) ∙ ap (λ (n : Names). pick (yes has) n Good) (verdict_as D present)
+      verdict_pick (yes has) (then_held D (λ v. held (present v))) (held absent) ∙ ap (λ (n : Result (Unit {0}) Refusal). pick (yes has) n (Ok tt)) (verdict_as D present)
 
   type_verdict : (r : ℕ) → verdict (held_predicate limit tx rs nd r) ≡ row_names K.Predicate limit tx rs nd r
   unfolding held_predicate row_names

@@ -1,10 +1,9 @@
 // What an encoder tests before it writes: the rows' count, their numbers, their nodes, and then the texts in reading order.
 ghost use Rattle.std.specs.Prelude.{◌≡◌, ◌+◌, ◌*◌, ◌≤◌, ltb, length, get_or};
 ghost use Rattle.varint.specs.Gathering.{name_held, text_held};
-ghost use Rattle.desc.specs.Emitting.{verdict, then_names};
+ghost use Rattle.desc.specs.Emitting.{verdict};
 ghost use Rattle.desc.specs.Encoding.{held_in};
 ghost use Rattle.desc.specs.Table.{table};
-ghost use Rattle.desc.specs.declared.write.Names.TheVariants.{Good};
 ghost use Rattle.protocol.specs.Page.{raw_held};
 ghost use Rattle.protocol.specs.Rows.{width_of};
 ghost use Rattle.protocol.specs.RowsHeld.{all_good};
@@ -15,18 +14,11 @@ ghost use Rattle.protocol_write.specs.Inner.Checking.{row_good, numbers_fine, la
 use crate::columns;
 use desc::node;
 use desc::node::read_cell;
-use desc::write::{Emitted, Names, check_name, check_names, size_desc};
+use desc::write::{check_name, check_names, size_desc};
 use protocol::message::{ControlReply, Message, RowKind, Span};
 use varint::MAX_U32;
 use varint::error::{Fault, Refusal};
 use varint::utf8::is_utf8;
-
-// The node after those of a type; or they are not laid out as nodes are.
-#[derive(Clone, Copy)]
-pub enum Laid {
-    Next(usize),
-    Wrong,
-}
 
 // The number `k` places into the row that starts at number `r`, 0 where there is none.
 pub(crate) fn number_at(rows: &[u64], r: usize, k: usize) -> u64
@@ -41,57 +33,42 @@ pub(crate) fn number_at(rows: &[u64], r: usize, k: usize) -> u64
     rows[r + k]
 }
 
-// The first refusal of two.
-fn then_names(a: Names, b: Names) -> Names
-    ensures { result ≡ then_names a b }
-{
-    match a {
-        Names::Good => b,
-        Names::Refused(e) => Names::Refused(e),
-    }
-}
-
 // Is the name there, and is it UTF-8?
-fn check_span(text: &[u8], span: Span) -> Names
+fn check_span(text: &[u8], span: Span) -> Result<(), Refusal>
     ensures { result ≡ verdict (name_held text.now span.start span.len) }
 {
     check_name(text, span.start as usize, span.len as usize)
 }
 
 // Are the bytes there? They may be any.
-fn check_raw(text: &[u8], span: Span) -> Names
+#[tactic(auto, unfolding(desc::specs::Emitting::verdict, protocol::specs::Page::raw_held))]
+fn check_raw(text: &[u8], span: Span) -> Result<(), Refusal>
     ensures { result ≡ verdict (raw_held text.now span.start span.len) }
 {
     let size = text.len() as u64;
     if size < span.start {
-        return Names::Refused(Refusal::BadMessage(Fault::Texts));
+        return Err(Refusal::BadMessage(Fault::Texts));
     }
     if size - span.start < span.len {
-        return Names::Refused(Refusal::BadMessage(Fault::Texts));
+        return Err(Refusal::BadMessage(Fault::Texts));
     }
-    Names::Good
+    Ok(())
 }
 
 // Is the free text there, and is it UTF-8?
-fn check_text(text: &[u8], span: Span) -> Names
+fn check_text(text: &[u8], span: Span) -> Result<(), Refusal>
     ensures { result ≡ verdict (text_held text.now span.start span.len) }
 {
-    let start = span.start;
-    let len = span.len;
-    match check_raw(text, span) {
-        Names::Refused(e) => Names::Refused(e),
-        Names::Good => {
-            if is_utf8(text, start as usize, len as usize) {
-                return Names::Good;
-            }
-            Names::Refused(Refusal::BadString)
-        }
+    check_raw(text, span)?;
+    if is_utf8(text, span.start as usize, span.len as usize) {
+        return Ok(());
     }
+    Err(Refusal::BadString)
 }
 
 // The names of the descriptor whose root is node `n`. The nodes are laid out, so their end is read from the root and not found by a
 // second walk; `limit` is for the contract alone.
-fn check_desc(text: &[u8], nodes: &[u64], n: usize, limit: u64) -> Names
+fn check_desc(text: &[u8], nodes: &[u64], n: usize, limit: u64) -> Result<(), Refusal>
     requires { LaidAt limit nodes.now n }
     ensures { result ≡ verdict (held_in (table limit nodes.now n 0) text.now) }
 {
@@ -100,19 +77,21 @@ fn check_desc(text: &[u8], nodes: &[u64], n: usize, limit: u64) -> Names
 }
 
 // The names of a type's value, where it has one: its root is the node after its key, whose root is node `key`.
-fn check_value(text: &[u8], nodes: &[u64], has: u64, key: usize, limit: u64) -> Names
+#[tactic(auto, unfolding(crate::specs::Inner::Checking::value_names))]
+fn check_value(text: &[u8], nodes: &[u64], has: u64, key: usize, limit: u64) -> Result<(), Refusal>
     requires { ValueLaid limit nodes.now has key }
     ensures { result ≡ value_names limit text.now nodes.now has key }
 {
     if has == 0 {
-        return Names::Good;
+        return Ok(());
     }
     let root = read_cell(nodes, key, node::END);
     check_desc(text, nodes, root as usize, limit)
 }
 
 // The texts of the type whose row starts at number `r`.
-fn check_type(text: &[u8], rows: &[u64], nodes: &[u64], r: usize, limit: u64) -> Names
+#[tactic(auto, unfolding(crate::specs::Inner::Checking::row_names, desc::specs::Emitting::then_names))]
+fn check_type(text: &[u8], rows: &[u64], nodes: &[u64], r: usize, limit: u64) -> Result<(), Refusal>
     requires { RowLaid Predicate limit rows.now nodes.now r }
     ensures { result ≡ row_names Predicate limit text.now rows.now nodes.now r }
 {
@@ -120,14 +99,13 @@ fn check_type(text: &[u8], rows: &[u64], nodes: &[u64], r: usize, limit: u64) ->
     let len = number_at(rows, r, columns::TYPE_LEN);
     let has = number_at(rows, r, columns::TYPE_VALUE);
     let key = number_at(rows, r, columns::TYPE_KEY);
-    let named = check_name(text, start as usize, len as usize);
-    let keyed = check_desc(text, nodes, key as usize, limit);
-    let valued = check_value(text, nodes, has, key as usize, limit);
-    then_names(named, then_names(keyed, valued))
+    check_name(text, start as usize, len as usize)?;
+    check_desc(text, nodes, key as usize, limit)?;
+    check_value(text, nodes, has, key as usize, limit)
 }
 
 // The text of the claim or the step whose row starts at number `r`.
-fn check_label(text: &[u8], rows: &[u64], r: usize) -> Names
+fn check_label(text: &[u8], rows: &[u64], r: usize) -> Result<(), Refusal>
     ensures { result ≡ verdict (name_held text.now (get_or rows.now r 0) (get_or rows.now (r + 1) 0)) }
 {
     let start = number_at(rows, r, columns::LABEL_START);
@@ -136,16 +114,24 @@ fn check_label(text: &[u8], rows: &[u64], r: usize) -> Names
 }
 
 // The texts of the row that starts at number `r`.
-fn check_row(kind: RowKind, limit: u64, text: &[u8], rows: &[u64], nodes: &[u64], r: usize) -> Names
+#[tactic(auto, unfolding(crate::specs::Inner::Checking::row_names))]
+fn check_row(
+    kind: RowKind,
+    limit: u64,
+    text: &[u8],
+    rows: &[u64],
+    nodes: &[u64],
+    r: usize,
+) -> Result<(), Refusal>
     requires { RowLaid kind limit rows.now nodes.now r }
     ensures { result ≡ row_names kind limit text.now rows.now nodes.now r }
 {
     match kind {
         RowKind::Claim => check_label(text, rows, r),
-        RowKind::Id => Names::Good,
+        RowKind::Id => Ok(()),
         RowKind::Predicate => check_type(text, rows, nodes, r, limit),
         RowKind::Step => check_label(text, rows, r),
-        RowKind::Pair => Names::Good,
+        RowKind::Pair => Ok(()),
     }
 }
 
@@ -157,24 +143,17 @@ fn check_texts(
     rows: &[u64],
     nodes: &[u64],
     count: u64,
-) -> Names
-    requires { (count * width_of kind ≤ length rows.now) × (nodes_fine kind limit rows.now nodes.now count ≡ Good) }
+) -> Result<(), Refusal>
+    requires { (count * width_of kind ≤ length rows.now) × (nodes_fine kind limit rows.now nodes.now count ≡ Ok tt) }
     ensures { result ≡ rows_names kind limit text.now rows.now nodes.now count 0 }
 {
     let width = kind.width();
-    let mut left = count;
     let mut r: usize = 0;
-    while 0 < left {
-        match check_row(kind, limit, text, rows, nodes, r) {
-            Names::Refused(e) => {
-                return Names::Refused(e);
-            }
-            Names::Good => {}
-        }
+    for _ in 0..count {
+        check_row(kind, limit, text, rows, nodes, r)?;
         r += width;
-        left -= 1;
     }
-    Names::Good
+    Ok(())
 }
 
 // The same, without a turn for rows that have no text.
@@ -185,20 +164,21 @@ fn check_named(
     rows: &[u64],
     nodes: &[u64],
     count: u64,
-) -> Names
-    requires { (count * width_of kind ≤ length rows.now) × (nodes_fine kind limit rows.now nodes.now count ≡ Good) }
+) -> Result<(), Refusal>
+    requires { (count * width_of kind ≤ length rows.now) × (nodes_fine kind limit rows.now nodes.now count ≡ Ok tt) }
     ensures { result ≡ rows_names kind limit text.now rows.now nodes.now count 0 }
 {
     match kind {
         RowKind::Claim => check_texts(kind, limit, text, rows, nodes, count),
-        RowKind::Id => Names::Good,
+        RowKind::Id => Ok(()),
         RowKind::Predicate => check_texts(kind, limit, text, rows, nodes, count),
         RowKind::Step => check_texts(kind, limit, text, rows, nodes, count),
-        RowKind::Pair => Names::Good,
+        RowKind::Pair => Ok(()),
     }
 }
 
 // May a message have the numbers of the type whose row starts at number `r`?
+#[tactic(auto, unfolding(protocol::specs::Types::type_numbers))]
 fn type_good(rows: &[u64], r: usize) -> bool
     ensures { result ≡ type_numbers rows.now r }
 {
@@ -208,6 +188,7 @@ fn type_good(rows: &[u64], r: usize) -> bool
     (id <= MAX_U32) & (virtual_flag <= 1) & (value_flag <= 1)
 }
 
+#[tactic(auto, unfolding(crate::specs::Inner::Checking::row_good, protocol::specs::Profile::step_numbers))]
 fn row_good(kind: RowKind, rows: &[u64], r: usize) -> bool
     ensures { result ≡ row_good kind rows.now r }
 {
@@ -225,19 +206,18 @@ fn rows_good(kind: RowKind, rows: &[u64], count: u64) -> bool
     ensures { result ≡ all_good (row_good kind rows.now) (width_of kind) count 0 }
 {
     let width = kind.width();
-    let mut left = count;
     let mut r: usize = 0;
-    while 0 < left {
+    for _ in 0..count {
         if !row_good(kind, rows, r) {
             return false;
         }
         r += width;
-        left -= 1;
     }
     true
 }
 
 // Only steps and types have numbers that a message may not have.
+#[tactic(auto, unfolding(crate::specs::Inner::Checking::numbers_fine))]
 fn numbers_good(kind: RowKind, rows: &[u64], count: u64) -> bool
     requires { count * width_of kind ≤ length rows.now }
     ensures { result ≡ numbers_fine kind rows.now count }
@@ -252,68 +232,65 @@ fn numbers_good(kind: RowKind, rows: &[u64], count: u64) -> bool
 }
 
 // The node after the descriptor whose root is node `n`.
-fn after_desc(nodes: &[u64], n: usize, limit: u64) -> Laid
+#[tactic(auto, unfolding(crate::specs::Inner::Checking::laid_as, desc::specs::Emitting::sized))]
+fn after_desc(nodes: &[u64], n: usize, limit: u64) -> Option<usize>
     ensures { result ≡ laid_as (node_after (table limit nodes.now n 0)) }
 {
-    match size_desc(nodes, n, limit) {
-        Emitted::Wrong => Laid::Wrong,
-        Emitted::Done { next, place: _ } => Laid::Next(next),
-    }
+    let emitted = size_desc(nodes, n, limit)?;
+    Some(emitted.next)
 }
 
 // The node after those of the type whose row starts at number `r`, the first of which must be node `n`.
-fn type_laid(rows: &[u64], nodes: &[u64], r: usize, n: usize, limit: u64) -> Laid
+#[tactic(auto, unfolding(crate::specs::Inner::Checking::laid_as, protocol::specs::Types::type_laid))]
+fn type_laid(rows: &[u64], nodes: &[u64], r: usize, n: usize, limit: u64) -> Option<usize>
     ensures { result ≡ laid_as (type_laid limit rows.now nodes.now r n) }
 {
-    let key = number_at(rows, r, 5);
+    let key = number_at(rows, r, columns::TYPE_KEY);
     if key != n as u64 {
-        return Laid::Wrong;
+        return None;
     }
-    match after_desc(nodes, n, limit) {
-        Laid::Wrong => Laid::Wrong,
-        Laid::Next(m) => {
-            if number_at(rows, r, 4) == 0 {
-                return Laid::Next(m);
-            }
-            after_desc(nodes, m, limit)
-        }
+    let past = after_desc(nodes, n, limit)?;
+    if number_at(rows, r, columns::TYPE_VALUE) == 0 {
+        return Some(past);
     }
+    after_desc(nodes, past, limit)
 }
 
 // The types' nodes stand one behind the other, without a gap.
-fn types_laid(rows: &[u64], nodes: &[u64], count: u64, limit: u64) -> Names
+fn types_laid(rows: &[u64], nodes: &[u64], count: u64, limit: u64) -> Result<(), Refusal>
     requires { count * width_of Predicate ≤ length rows.now }
     ensures { result ≡ verdict (types_laid limit rows.now nodes.now count 0 0) }
 {
-    let mut left = count;
     let mut r: usize = 0;
     let mut n: usize = 0;
-    while 0 < left {
-        match type_laid(rows, nodes, r, n, limit) {
-            Laid::Wrong => {
-                return Names::Refused(Refusal::BadMessage(Fault::Layout));
-            }
-            Laid::Next(m) => {
-                n = m;
-            }
-        }
-        r += 6;
-        left -= 1;
+    for _ in 0..count {
+        let Some(past) = type_laid(rows, nodes, r, n, limit) else {
+            return Err(Refusal::BadMessage(Fault::Layout));
+        };
+        n = past;
+        r += columns::TYPE_WIDTH;
     }
-    Names::Good
+    Ok(())
 }
 
 // Only types have nodes.
-fn nodes_laid(kind: RowKind, limit: u64, rows: &[u64], nodes: &[u64], count: u64) -> Names
+#[tactic(auto, unfolding(crate::specs::Inner::Checking::nodes_fine))]
+fn nodes_laid(
+    kind: RowKind,
+    limit: u64,
+    rows: &[u64],
+    nodes: &[u64],
+    count: u64,
+) -> Result<(), Refusal>
     requires { count * width_of kind ≤ length rows.now }
     ensures { result ≡ nodes_fine kind limit rows.now nodes.now count }
 {
     match kind {
-        RowKind::Claim => Names::Good,
-        RowKind::Id => Names::Good,
+        RowKind::Claim => Ok(()),
+        RowKind::Id => Ok(()),
         RowKind::Predicate => types_laid(rows, nodes, count, limit),
-        RowKind::Step => Names::Good,
-        RowKind::Pair => Names::Good,
+        RowKind::Step => Ok(()),
+        RowKind::Pair => Ok(()),
     }
 }
 
@@ -325,6 +302,7 @@ pub fn few_rows(kind: RowKind, rows: &[u64], count: u64) -> bool
     (whole as u64) < count
 }
 
+#[tactic(auto, unfolding(crate::specs::Inner::Checking::rows_fine, desc::specs::Emitting::then_names))]
 fn check_rows(
     kind: RowKind,
     limit: u64,
@@ -332,21 +310,20 @@ fn check_rows(
     rows: &[u64],
     nodes: &[u64],
     count: u64,
-) -> Names
+) -> Result<(), Refusal>
     ensures { result ≡ rows_fine kind limit text.now rows.now nodes.now count }
 {
     if few_rows(kind, rows, count) {
-        return Names::Refused(Refusal::BadMessage(Fault::RowCount));
+        return Err(Refusal::BadMessage(Fault::RowCount));
     }
     if !numbers_good(kind, rows, count) {
-        return Names::Refused(Refusal::BadMessage(Fault::Number));
+        return Err(Refusal::BadMessage(Fault::Number));
     }
-    match nodes_laid(kind, limit, rows, nodes, count) {
-        Names::Refused(e) => Names::Refused(e),
-        Names::Good => check_named(kind, limit, text, rows, nodes, count),
-    }
+    nodes_laid(kind, limit, rows, nodes, count)?;
+    check_named(kind, limit, text, rows, nodes, count)
 }
 
+#[tactic(auto, unfolding(crate::specs::Inner::Checking::startup_fine, desc::specs::Emitting::then_names))]
 fn check_startup(
     database: Span,
     limit: u64,
@@ -354,20 +331,18 @@ fn check_startup(
     rows: &[u64],
     nodes: &[u64],
     count: u64,
-) -> Names
+) -> Result<(), Refusal>
     ensures { result ≡ startup_fine database limit text.now rows.now nodes.now count }
 {
     if few_rows(RowKind::Claim, rows, count) {
-        return Names::Refused(Refusal::BadMessage(Fault::RowCount));
+        return Err(Refusal::BadMessage(Fault::RowCount));
     }
-    let named = check_span(text, database);
-    then_names(
-        named,
-        check_rows(RowKind::Claim, limit, text, rows, nodes, count),
-    )
+    check_span(text, database)?;
+    check_rows(RowKind::Claim, limit, text, rows, nodes, count)
 }
 
-fn check_reply(reply: ControlReply, text: &[u8]) -> Names
+#[tactic(auto, unfolding(crate::specs::Inner::Checking::reply_fine))]
+fn check_reply(reply: ControlReply, text: &[u8]) -> Result<(), Refusal>
     ensures { result ≡ reply_fine reply text.now }
 {
     match reply {
@@ -377,37 +352,42 @@ fn check_reply(reply: ControlReply, text: &[u8]) -> Names
             facts: _,
             bytes: _,
             already_complete: _,
-        } => Names::Good,
-        ControlReply::Removed => Names::Good,
+        } => Ok(()),
+        ControlReply::Removed => Ok(()),
     }
 }
 
 // A fetch has at most 4,096 ids.
-fn check_fetch(limit: u64, text: &[u8], rows: &[u64], nodes: &[u64], count: u64) -> Names
+#[tactic(auto, unfolding(crate::specs::Inner::Checking::fetch_fine, desc::specs::Emitting::then_names))]
+fn check_fetch(
+    limit: u64,
+    text: &[u8],
+    rows: &[u64],
+    nodes: &[u64],
+    count: u64,
+) -> Result<(), Refusal>
     ensures { result ≡ fetch_fine limit text.now rows.now nodes.now count }
 {
-    let found = check_rows(RowKind::Pair, limit, text, rows, nodes, count);
-    let Names::Good = found else {
-        return found;
-    };
+    check_rows(RowKind::Pair, limit, text, rows, nodes, count)?;
     let too_many = Message::MAX_FETCH < count;
     if too_many {
-        return Names::Refused(Refusal::BlockTooLarge {
+        return Err(Refusal::BlockTooLarge {
             declared: count,
             max: Message::MAX_FETCH,
         });
     }
-    Names::Good
+    Ok(())
 }
 
 // Can the message be written?
+#[tactic(auto, unfolding(crate::specs::Inner::Checking::fine, desc::specs::Emitting::then_names))]
 pub(crate) fn check_message(
     message: Message,
     limit: u64,
     text: &[u8],
     rows: &[u64],
     nodes: &[u64],
-) -> Names
+) -> Result<(), Refusal>
     ensures { result ≡ fine limit message text.now rows.now nodes.now }
 {
     match message {
@@ -422,7 +402,7 @@ pub(crate) fn check_message(
             version: _,
             schema_fingerprint: _,
             predicates: _,
-        } => Names::Good,
+        } => Ok(()),
         Message::Error {
             code: _,
             text: span,
@@ -430,7 +410,7 @@ pub(crate) fn check_message(
         Message::Complete {
             first: _,
             second: _,
-        } => Names::Good,
+        } => Ok(()),
         Message::Ids { count } => check_rows(RowKind::Id, limit, text, rows, nodes, count),
         Message::Types { count } => check_rows(RowKind::Predicate, limit, text, rows, nodes, count),
         Message::Control {
@@ -438,19 +418,25 @@ pub(crate) fn check_message(
             database,
             allow_zero_facts: _,
             schema,
-        } => then_names(check_span(text, database), check_text(text, schema)),
+        } => {
+            check_span(text, database)?;
+            check_text(text, schema)
+        }
         Message::Reply(reply) => check_reply(reply, text),
         Message::Profile { steps } => check_rows(RowKind::Step, limit, text, rows, nodes, steps),
         Message::Page {
             limit: _,
             cursor,
             query,
-        } => then_names(check_raw(text, cursor), check_text(text, query)),
+        } => {
+            check_raw(text, cursor)?;
+            check_text(text, query)
+        }
         Message::Fetch { digest: _, count } => check_fetch(limit, text, rows, nodes, count),
         Message::ListingDigest {
             predicate: _,
             digest: _,
-        } => Names::Good,
+        } => Ok(()),
         Message::Opaque { payload } => check_raw(text, payload),
     }
 }

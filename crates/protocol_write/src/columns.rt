@@ -21,3 +21,5 @@ pub(crate) const TYPE_VIRTUAL: usize = 3;
 pub(crate) const TYPE_VALUE: usize = 4;
 
 pub(crate) const TYPE_KEY: usize = 5;
+
+pub(crate) const TYPE_WIDTH: usize = 6;

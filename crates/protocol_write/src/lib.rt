@@ -11,15 +11,15 @@ ghost use Rattle.protocol.specs.declared.message.Message.TheVariants as Msg;
 ghost use Rattle.protocol_write.specs.Inner.Writing.{size_of};
 
 use checks::check_message;
-use desc::write::Names;
 use desc::{MAX_DEPTH, MAX_PAYLOAD};
-use protocol::message::{ControlOp, ControlReply, Digest, ErrorCode, Message, Mode, Span};
+use protocol::message::{ControlOp, ControlReply, ErrorCode, Message, Mode, Span};
 use varint::Written;
 use varint::error::{Buffer, Refusal};
-use varint::store::clear_bytes;
+use varint::store::fill_from;
 use write::write_message;
 
 // How many bytes the message has; 2^64−1 stands for more as well.
+#[tactic(auto, unfolding(crate::specs::Inner::Writing::size_of))]
 fn size_message(message: Message, limit: u64, text: &[u8], rows: &[u64], nodes: &[u64]) -> usize
     ensures { result ≡ size_of limit message text.now rows.now nodes.now }
 {
@@ -40,27 +40,20 @@ fn encode_within(
     requires { max ≤ 4294967296 }
     ensures { record { answer = result; out = out.new } ≡ encode_message max limit message text.now rows.now nodes.now out.old }
 {
-    match check_message(message, limit, text, rows, nodes) {
-        Names::Refused(e) => Written::Refused(e),
-        Names::Good => {
-            let size = size_message(message, limit, text, rows, nodes);
-            if max < size as u64 {
-                return Written::Refused(Refusal::BlockTooLarge {
-                    declared: size as u64,
-                    max,
-                });
-            }
-            if out.len() < size {
-                return Written::Refused(Refusal::TooSmall {
-                    which: Buffer::Out,
-                    needed: size as u64,
-                });
-            }
-            write_message(message, limit, text, rows, nodes, out);
-            clear_bytes(out, size);
-            Written::Wrote { len: size }
-        }
+    check_message(message, limit, text, rows, nodes)?;
+    let size = size_message(message, limit, text, rows, nodes);
+    if max < size as u64 {
+        return Err(Refusal::BlockTooLarge {
+            declared: size as u64,
+            max,
+        });
     }
+    if out.len() < size {
+        return Err(Refusal::too_small(Buffer::Out, size));
+    }
+    write_message(message, limit, text, rows, nodes, out);
+    fill_from(out, size, 0);
+    Ok(size)
 }
 
 // Writes the payload of a message from the lent memory that it points into, and zeros after it; or a refusal, and nothing is written.
@@ -245,7 +238,7 @@ pub fn encode_page(
 }
 
 pub fn encode_fetch(
-    digest: Digest,
+    digest: Option<u64>,
     count: u64,
     text: &[u8],
     rows: &[u64],

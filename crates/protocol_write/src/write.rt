@@ -10,28 +10,28 @@ use crate::checks::{few_rows, number_at};
 use crate::columns;
 use desc::node;
 use desc::node::read_cell;
-use desc::write::{Emitted, plus, put_desc, put_name, put_number};
-use protocol::message::{ControlOp, ControlReply, Digest, Message, RowKind, Span};
+use desc::write::{plus, put_desc, put_name, put_number};
+use protocol::message::{ControlOp, ControlReply, Message, RowKind, Span};
 use varint::fixed::{put_u32_le, put_u64_le};
-use varint::store::store_byte;
+use varint::store::store;
 
+#[tactic(auto, unfolding(crate::specs::Inner::Writing::put_byte, desc::specs::Emitting::put_bytes))]
 fn write_byte(out: &mut [u8], at: usize, b: u8) -> usize
     ensures { record { out = out.new; place = result } ≡ put_byte b (record { out = out.old; place = at }) }
 {
-    store_byte(out, at, b);
+    store(out, at, b);
     plus(at, 1)
 }
 
+#[tactic(auto, unfolding(crate::specs::Inner::Writing::put_flag))]
 fn write_flag(out: &mut [u8], at: usize, yes: bool) -> usize
     ensures { record { out = out.new; place = result } ≡ put_flag yes (record { out = out.old; place = at }) }
 {
-    if yes {
-        return write_byte(out, at, 1);
-    }
-    write_byte(out, at, 0)
+    write_byte(out, at, u8::from(yes))
 }
 
 // The 4 low bytes: a greater length is that of a message that is too long to be written.
+#[tactic(auto, using(varint::proofs::FixedLaws::length_put_le, varint::proofs::FixedLaws::put_le_mod), unfolding(crate::specs::Inner::Writing::put_fixed, desc::specs::Emitting::put_bytes))]
 fn write_fixed4(out: &mut [u8], at: usize, v: u64) -> usize
     ensures { record { out = out.new; place = result } ≡ put_fixed 4 v (record { out = out.old; place = at }) }
 {
@@ -39,6 +39,7 @@ fn write_fixed4(out: &mut [u8], at: usize, v: u64) -> usize
     plus(at, 4)
 }
 
+#[tactic(auto, using(varint::proofs::FixedLaws::length_put_le), unfolding(crate::specs::Inner::Writing::put_fixed, desc::specs::Emitting::put_bytes))]
 fn write_fixed8(out: &mut [u8], at: usize, v: u64) -> usize
     ensures { record { out = out.new; place = result } ≡ put_fixed 8 v (record { out = out.old; place = at }) }
 {
@@ -46,6 +47,7 @@ fn write_fixed8(out: &mut [u8], at: usize, v: u64) -> usize
     plus(at, 8)
 }
 
+#[tactic(auto, unfolding(crate::specs::Inner::Writing::put_two))]
 fn write_two(v: u64, w: u64, out: &mut [u8], at: usize) -> usize
     ensures { record { out = out.new; place = result } ≡ put_two v w (record { out = out.old; place = at }) }
 {
@@ -59,6 +61,7 @@ fn write_raw(text: &[u8], span: Span, out: &mut [u8], at: usize) -> usize
     put_name(text, span.start as usize, span.len as usize, out, at)
 }
 
+#[tactic(auto, unfolding(crate::specs::Inner::Writing::put_text))]
 fn write_text(text: &[u8], start: u64, len: u64, out: &mut [u8], at: usize) -> usize
     ensures { record { out = out.new; place = result } ≡ put_text text.now start len (record { out = out.old; place = at }) }
 {
@@ -67,16 +70,18 @@ fn write_text(text: &[u8], start: u64, len: u64, out: &mut [u8], at: usize) -> u
 }
 
 // The descriptor whose root is node `n`.
+#[tactic(auto, unfolding(crate::specs::Inner::Writing::put_at, desc::specs::Emitting::put_desc))]
 fn write_desc(text: &[u8], nodes: &[u64], n: usize, limit: u64, out: &mut [u8], at: usize) -> usize
     ensures { record { out = out.new; place = result } ≡ put_at text.now (table limit nodes.now n 0) (record { out = out.old; place = at }) }
 {
     match put_desc(text, nodes, n, limit, out, at) {
-        Emitted::Done { next: _, place } => place,
-        Emitted::Wrong => at,
+        Some(emitted) => emitted.place,
+        None => at,
     }
 }
 
 // The id's two halves. Not by `write_two`, which has other callers and so is not inlined into the loop over the rows.
+#[tactic(auto, unfolding(crate::specs::Inner::Writing::put_pair, crate::specs::Inner::Writing::put_two))]
 fn write_pair(id: u64, out: &mut [u8], at: usize) -> usize
     ensures { record { out = out.new; place = result } ≡ put_pair id (record { out = out.old; place = at }) }
 {
@@ -85,6 +90,7 @@ fn write_pair(id: u64, out: &mut [u8], at: usize) -> usize
 }
 
 // Whether a type has a value, and the value: its root is the node after its key, whose root is node `key`.
+#[tactic(auto, unfolding(crate::specs::Inner::Writing::put_value))]
 fn write_value(
     text: &[u8],
     nodes: &[u64],
@@ -104,6 +110,7 @@ fn write_value(
     write_desc(text, nodes, root as usize, limit, out, past)
 }
 
+#[tactic(auto, unfolding(crate::specs::Inner::Writing::put_type))]
 fn write_type(
     limit: u64,
     text: &[u8],
@@ -115,12 +122,12 @@ fn write_type(
 ) -> usize
     ensures { record { out = out.new; place = result } ≡ put_type limit text.now rows.now nodes.now r (record { out = out.old; place = at }) }
 {
-    let id = number_at(rows, r, 0);
-    let start = number_at(rows, r, 1);
-    let len = number_at(rows, r, 2);
-    let virtual_flag = number_at(rows, r, 3);
-    let has = number_at(rows, r, 4);
-    let key = number_at(rows, r, 5);
+    let id = number_at(rows, r, columns::TYPE_ID);
+    let start = number_at(rows, r, columns::TYPE_START);
+    let len = number_at(rows, r, columns::TYPE_LEN);
+    let virtual_flag = number_at(rows, r, columns::TYPE_VIRTUAL);
+    let has = number_at(rows, r, columns::TYPE_VALUE);
+    let key = number_at(rows, r, columns::TYPE_KEY);
     let a = put_number(out, at, id);
     let b = write_text(text, start, len, out, a);
     let c = write_flag(out, b, virtual_flag != 0);
@@ -129,6 +136,7 @@ fn write_type(
 }
 
 // The text of the claim or the step whose row starts at number `r`, and the number after it.
+#[tactic(auto, unfolding(crate::specs::Inner::Writing::put_labelled))]
 fn write_labelled(text: &[u8], rows: &[u64], r: usize, out: &mut [u8], at: usize) -> usize
     ensures { record { out = out.new; place = result } ≡ put_labelled text.now rows.now r (record { out = out.old; place = at }) }
 {
@@ -139,6 +147,7 @@ fn write_labelled(text: &[u8], rows: &[u64], r: usize, out: &mut [u8], at: usize
     put_number(out, named, v)
 }
 
+#[tactic(auto, unfolding(crate::specs::Inner::Writing::put_step))]
 fn write_step(text: &[u8], rows: &[u64], r: usize, out: &mut [u8], at: usize) -> usize
     ensures { record { out = out.new; place = result } ≡ put_step text.now rows.now r (record { out = out.old; place = at }) }
 {
@@ -148,6 +157,7 @@ fn write_step(text: &[u8], rows: &[u64], r: usize, out: &mut [u8], at: usize) ->
 }
 
 // The row that starts at number `r`.
+#[tactic(auto, unfolding(crate::specs::Inner::Writing::put_row))]
 fn write_row(
     kind: RowKind,
     limit: u64,
@@ -183,18 +193,17 @@ fn write_rows(
     ensures { record { out = out.new; place = result } ≡ put_rows kind limit text.now rows.now nodes.now count 0 (record { out = out.old; place = at }) }
 {
     let width = kind.width();
-    let mut left = count;
     let mut r: usize = 0;
     let mut a = at;
-    while 0 < left {
+    for _ in 0..count {
         a = write_row(kind, limit, text, rows, nodes, r, out, a);
         r += width;
-        left -= 1;
     }
     a
 }
 
 // A count and so many rows.
+#[tactic(auto, unfolding(crate::specs::Inner::Writing::put_counted))]
 fn write_counted(
     kind: RowKind,
     limit: u64,
@@ -215,6 +224,7 @@ fn write_counted(
 }
 
 // A byte and a text.
+#[tactic(auto, unfolding(crate::specs::Inner::Writing::put_tagged))]
 fn write_tagged(b: u8, span: Span, text: &[u8], out: &mut [u8], at: usize) -> usize
     ensures { record { out = out.new; place = result } ≡ put_tagged b span text.now (record { out = out.old; place = at }) }
 {
@@ -223,6 +233,7 @@ fn write_tagged(b: u8, span: Span, text: &[u8], out: &mut [u8], at: usize) -> us
 }
 
 // A startup up to its claims.
+#[tactic(auto, unfolding(crate::specs::Inner::Writing::put_startup))]
 fn write_startup(
     version: u32,
     database: Span,
@@ -240,6 +251,7 @@ fn write_startup(
     put_number(out, c, fingerprint)
 }
 
+#[tactic(auto, unfolding(crate::specs::Inner::Writing::put_control))]
 fn write_control(
     op: u8,
     database: Span,
@@ -256,6 +268,7 @@ fn write_control(
     write_text(text, schema.start, schema.len, out, b)
 }
 
+#[tactic(auto, unfolding(crate::specs::Inner::Writing::put_finished))]
 fn write_finished(
     fingerprint: u64,
     facts: u64,
@@ -266,18 +279,19 @@ fn write_finished(
 ) -> usize
     ensures { record { out = out.new; place = result } ≡ put_finished fingerprint facts bytes complete (record { out = out.old; place = at }) }
 {
-    let a = write_byte(out, at, ControlOp::Finish.as_byte());
+    let a = write_byte(out, at, u8::from(ControlOp::Finish));
     let b = write_two(fingerprint, facts, out, a);
     let c = put_number(out, b, bytes);
     write_flag(out, c, complete)
 }
 
+#[tactic(auto, unfolding(crate::specs::Inner::Writing::put_reply))]
 fn write_reply(reply: ControlReply, text: &[u8], out: &mut [u8], at: usize) -> usize
     ensures { record { out = out.new; place = result } ≡ put_reply reply text.now (record { out = out.old; place = at }) }
 {
     match reply {
         ControlReply::Created { instance } => {
-            write_tagged(ControlOp::Create.as_byte(), instance, text, out, at)
+            write_tagged(u8::from(ControlOp::Create), instance, text, out, at)
         }
         ControlReply::Finished {
             fingerprint,
@@ -285,10 +299,11 @@ fn write_reply(reply: ControlReply, text: &[u8], out: &mut [u8], at: usize) -> u
             bytes,
             already_complete,
         } => write_finished(fingerprint, facts, bytes, already_complete, out, at),
-        ControlReply::Removed => write_byte(out, at, ControlOp::Remove.as_byte()),
+        ControlReply::Removed => write_byte(out, at, u8::from(ControlOp::Remove)),
     }
 }
 
+#[tactic(auto, unfolding(crate::specs::Inner::Writing::put_page))]
 fn write_page(most: u64, cursor: Span, query: Span, text: &[u8], out: &mut [u8], at: usize) -> usize
     ensures { record { out = out.new; place = result } ≡ put_page most cursor query text.now (record { out = out.old; place = at }) }
 {
@@ -298,12 +313,13 @@ fn write_page(most: u64, cursor: Span, query: Span, text: &[u8], out: &mut [u8],
     write_raw(text, query, out, c)
 }
 
-fn write_digest(digest: Digest, out: &mut [u8], at: usize) -> usize
+#[tactic(auto, unfolding(crate::specs::Inner::Writing::put_digest))]
+fn write_digest(digest: Option<u64>, out: &mut [u8], at: usize) -> usize
     ensures { record { out = out.new; place = result } ≡ put_digest digest (record { out = out.old; place = at }) }
 {
     match digest {
-        Digest::Absent => write_byte(out, at, 0),
-        Digest::Present(d) => {
+        None => write_byte(out, at, 0),
+        Some(d) => {
             let past = write_byte(out, at, 1);
             put_number(out, past, d)
         }
@@ -311,6 +327,7 @@ fn write_digest(digest: Digest, out: &mut [u8], at: usize) -> usize
 }
 
 // The whole message from the start of `out` on; returns its size.
+#[tactic(auto, unfolding(crate::specs::Inner::Writing::put_message))]
 pub(crate) fn write_message(
     message: Message,
     limit: u64,
@@ -332,7 +349,7 @@ pub(crate) fn write_message(
             let at = write_startup(
                 version,
                 database,
-                mode.as_byte(),
+                u8::from(mode),
                 schema_fingerprint,
                 text,
                 out,
@@ -348,7 +365,7 @@ pub(crate) fn write_message(
             let at = write_two(version as u64, schema_fingerprint, out, 0);
             put_number(out, at, predicates)
         }
-        Message::Error { code, text: span } => write_tagged(code.as_byte(), span, text, out, 0),
+        Message::Error { code, text: span } => write_tagged(u8::from(code), span, text, out, 0),
         Message::Complete { first, second } => write_two(first, second, out, 0),
         Message::Ids { count } => write_counted(
             RowKind::Id,
@@ -369,7 +386,7 @@ pub(crate) fn write_message(
             allow_zero_facts,
             schema,
         } => write_control(
-            op.as_byte(),
+            u8::from(op),
             database,
             allow_zero_facts,
             schema,

@@ -1,7 +1,6 @@
 -- What an encoder looks at before it writes, as the code has it: 19(2), 19(4), 19(3), then the texts in reading order.
-use Rattle.std.specs.Prelude.{Bool, true, ◌≡◌, refl, List, [], ◌∷◌, ℕ, zero, suc, ◌+◌, ◌*◌, ltb, length, get_or}
+use Rattle.std.specs.Prelude.{Bool, true, ◌≡◌, refl, List, [], ◌∷◌, ℕ, zero, suc, ◌+◌, ◌*◌, ltb, length, get_or, Ok, Result, Err, Some, None, Option}
 use Rattle.varint.specs.Choice.{pick}
-use Rattle.varint.specs.Formats.{got}
 use Rattle.varint.specs.Gathering.{Held, held, lacks, name_held, text_held}
 use Rattle.varint.specs.Stores.{part}
 use Rattle.varint.specs.Utf8.{utf8, scan, lead}
@@ -12,8 +11,6 @@ use Rattle.desc.specs.Encoding.{held_in}
 use Rattle.desc.specs.Layout.{end_at}
 use Rattle.desc.specs.Table.{cell, table}
 use Rattle.desc.specs.Trees.{Tree}
-use Rattle.desc.specs.declared.write.Names.{Names}
-use Rattle.desc.specs.declared.write.Names.TheVariants.{Good, Refused}
 use Rattle.protocol.specs.Fetch.{max_fetch}
 use Rattle.protocol.specs.Fields.{yes}
 use Rattle.protocol.specs.Page.{raw_held}
@@ -28,8 +25,8 @@ use Rattle.protocol.specs.declared.message.Message.TheVariants as Msg
 use Rattle.protocol.specs.declared.message.RowKind.{RowKind}
 use Rattle.protocol.specs.declared.message.RowKind.TheVariants.{Claim, Id, Predicate, Step, Pair}
 use Rattle.protocol.specs.declared.message.Span.{Span}
-use Rattle.protocol_write.specs.declared.checks.Laid.{Laid}
-use Rattle.protocol_write.specs.declared.checks.Laid.TheVariants as L
+use Rattle.varint.specs.declared.error.Refusal.{Refusal}
+use Rattle.varint.specs.Texts.{span}
 
 -- are the numbers of the row at number r such that a message may have them?
 unfoldable pub row_good : RowKind → List ℕ → ℕ → Bool
@@ -48,23 +45,23 @@ numbers_fine Step rs count = all_good (row_good Step rs) (width_of Step) count 0
 numbers_fine Pair rs count = true
 
 -- the node after those of a type, if they are laid out as nodes are
-unfoldable pub laid_as : Held ℕ → Laid
-laid_as (held n) = L.Next n
-laid_as (lacks e) = L.Wrong
+unfoldable pub laid_as : Held ℕ → Option ℕ
+laid_as (held n) = Some n
+laid_as (lacks e) = None
 
 -- are the nodes of the rows laid out? Only types have nodes.
-unfoldable pub nodes_fine : RowKind → ℕ → List ℕ → List ℕ → ℕ → Names
-nodes_fine Claim limit rs nd count = Good
-nodes_fine Id limit rs nd count = Good
+unfoldable pub nodes_fine : RowKind → ℕ → List ℕ → List ℕ → ℕ → Result (Unit {0}) Refusal
+nodes_fine Claim limit rs nd count = Ok tt
+nodes_fine Id limit rs nd count = Ok tt
 nodes_fine Predicate limit rs nd count = verdict (types_laid limit rs nd count 0 0)
-nodes_fine Step limit rs nd count = Good
-nodes_fine Pair limit rs nd count = Good
+nodes_fine Step limit rs nd count = Ok tt
+nodes_fine Pair limit rs nd count = Ok tt
 
 -- the nodes from node n on are laid out as those of a tree
 pub record LaidAt (limit : ℕ) (nd : List ℕ) (n : ℕ) : Type 0 where
   pub tree : Tree (ℕ × ℕ)
   pub next : ℕ
-  pub is : table limit nd n 0 ≡ got tree next
+  pub is : table limit nd n 0 ≡ Ok (tree, next)
 
 -- so are those of a type's value, where it has one
 abbrev pub ValueLaid : ℕ → List ℕ → ℕ → ℕ → Type 0
@@ -79,57 +76,57 @@ RowLaid Step limit rs nd r = Unit
 RowLaid Pair limit rs nd r = Unit
 
 -- a type's value, where it has one: its root is the node after its key, root `key`
-unfoldable pub value_names : ℕ → List ℕ → List ℕ → ℕ → ℕ → Names
-value_names limit tx nd has key = pick (yes has) (verdict (held_in (table limit nd (cell nd key end_at) 0) tx)) Good
+unfoldable pub value_names : ℕ → List ℕ → List ℕ → ℕ → ℕ → Result (Unit {0}) Refusal
+value_names limit tx nd has key = pick (yes has) (verdict (held_in (table limit nd (cell nd key end_at) 0) tx)) (Ok tt)
 
 -- the texts of the row at number r
-unfoldable pub row_names : RowKind → ℕ → List ℕ → List ℕ → List ℕ → ℕ → Names
+unfoldable pub row_names : RowKind → ℕ → List ℕ → List ℕ → List ℕ → ℕ → Result (Unit {0}) Refusal
 row_names Claim limit tx rs nd r = verdict (name_held tx (get_or rs r 0) (get_or rs (r + 1) 0))
-row_names Id limit tx rs nd r = Good
+row_names Id limit tx rs nd r = Ok tt
 row_names Predicate limit tx rs nd r =
     then_names (verdict (name_held tx (get_or rs (r + 1) 0) (get_or rs (r + 2) 0)))
     (then_names (verdict (held_in (table limit nd (get_or rs (r + 5) 0) 0) tx)) (value_names limit tx nd (get_or rs (r + 4) 0) (get_or rs (r + 5) 0)))
 row_names Step limit tx rs nd r = verdict (name_held tx (get_or rs r 0) (get_or rs (r + 1) 0))
-row_names Pair limit tx rs nd r = Good
+row_names Pair limit tx rs nd r = Ok tt
 
 -- the texts of n rows from number r on
-unfoldable pub rows_names : RowKind → ℕ → List ℕ → List ℕ → List ℕ → ℕ → ℕ → Names
-rows_names kind limit tx rs nd zero r = Good
+unfoldable pub rows_names : RowKind → ℕ → List ℕ → List ℕ → List ℕ → ℕ → ℕ → Result (Unit {0}) Refusal
+rows_names kind limit tx rs nd zero r = Ok tt
 rows_names kind limit tx rs nd (suc n) r = then_names (row_names kind limit tx rs nd r) (rows_names kind limit tx rs nd n (r + width_of kind))
 
 -- `count` rows as a whole
-unfoldable pub rows_fine : RowKind → ℕ → List ℕ → List ℕ → List ℕ → ℕ → Names
+unfoldable pub rows_fine : RowKind → ℕ → List ℕ → List ℕ → List ℕ → ℕ → Result (Unit {0}) Refusal
 rows_fine kind limit tx rs nd count =
     pick (ltb (length rs) (count * width_of kind))
-    (Refused (BadMessage RowCount))
+    (Err (BadMessage RowCount))
     (pick (numbers_fine kind rs count)
     (then_names (nodes_fine kind limit rs nd count) (rows_names kind limit tx rs nd count 0))
-    (Refused (BadMessage Number)))
+    (Err (BadMessage Number)))
 
 -- only a reply to a create has a text
-unfoldable pub reply_fine : ControlReply → List ℕ → Names
+unfoldable pub reply_fine : ControlReply → List ℕ → Result (Unit {0}) Refusal
 reply_fine (R.Created span) tx = verdict (name_held tx span.start span.len)
-reply_fine (R.Finished fingerprint facts bytes complete) tx = Good
-reply_fine R.Removed tx = Good
+reply_fine (R.Finished fingerprint facts bytes complete) tx = Ok tt
+reply_fine R.Removed tx = Ok tt
 
 -- the claims' count comes before the database's name
-unfoldable pub startup_fine : Span → ℕ → List ℕ → List ℕ → List ℕ → ℕ → Names
+unfoldable pub startup_fine : Span → ℕ → List ℕ → List ℕ → List ℕ → ℕ → Result (Unit {0}) Refusal
 startup_fine database limit tx rs nd count =
     pick (ltb (length rs) (count * width_of Claim))
-    (Refused (BadMessage RowCount))
+    (Err (BadMessage RowCount))
     (then_names (verdict (name_held tx database.start database.len)) (rows_fine Claim limit tx rs nd count))
 
 -- "12(count, 4096) for a fetch of over 4,096 ids"
-unfoldable pub fetch_fine : ℕ → List ℕ → List ℕ → List ℕ → ℕ → Names
+unfoldable pub fetch_fine : ℕ → List ℕ → List ℕ → List ℕ → ℕ → Result (Unit {0}) Refusal
 fetch_fine limit tx rs nd count =
-    then_names (rows_fine Pair limit tx rs nd count) (pick (ltb max_fetch count) (Refused (BlockTooLarge count max_fetch)) Good)
+    then_names (rows_fine Pair limit tx rs nd count) (pick (ltb max_fetch count) (Err (BlockTooLarge count max_fetch)) (Ok tt))
 
 -- is the message one that can be written?
-unfoldable pub fine : ℕ → Message → List ℕ → List ℕ → List ℕ → Names
+unfoldable pub fine : ℕ → Message → List ℕ → List ℕ → List ℕ → Result (Unit {0}) Refusal
 fine limit (Msg.Startup version database mode fingerprint count) tx rs nd = startup_fine database limit tx rs nd count
-fine limit (Msg.Ready version fingerprint predicates) tx rs nd = Good
+fine limit (Msg.Ready version fingerprint predicates) tx rs nd = Ok tt
 fine limit (Msg.Error code text) tx rs nd = verdict (text_held tx text.start text.len)
-fine limit (Msg.Complete first second) tx rs nd = Good
+fine limit (Msg.Complete first second) tx rs nd = Ok tt
 fine limit (Msg.Ids count) tx rs nd = rows_fine Id limit tx rs nd count
 fine limit (Msg.Types count) tx rs nd = rows_fine Predicate limit tx rs nd count
 fine limit (Msg.Control op database allow schema) tx rs nd =
@@ -139,15 +136,15 @@ fine limit (Msg.Profile count) tx rs nd = rows_fine Step limit tx rs nd count
 fine limit (Msg.Page most cursor query) tx rs nd =
     then_names (verdict (raw_held tx cursor.start cursor.len)) (verdict (text_held tx query.start query.len))
 fine limit (Msg.Fetch digest count) tx rs nd = fetch_fine limit tx rs nd count
-fine limit (Msg.ListingDigest predicate digest) tx rs nd = Good
+fine limit (Msg.ListingDigest predicate digest) tx rs nd = Ok tt
 fine limit (Msg.Opaque payload) tx rs nd = verdict (raw_held tx payload.start payload.len)
 
 -- a claim whose name is past the text's end, after one whose name is there
-example_names : rows_names Claim 64 (0x61 ∷ []) (0 ∷ 1 ∷ 7 ∷ 1 ∷ 1 ∷ 8 ∷ []) [] 2 0 ≡ Refused (BadMessage Texts)
+example_names : rows_names Claim 64 (0x61 ∷ []) (0 ∷ 1 ∷ 7 ∷ 1 ∷ 1 ∷ 8 ∷ []) [] 2 0 ≡ Err (BadMessage Texts)
 unfolding rows_names row_names then_names verdict name_held text_held utf8 scan lead part
 example_names = refl
 
 -- a fetch of too many ids, and too few rows for them: 19(2) comes first
-example_fetch : fetch_fine 64 [] [] [] 4097 ≡ Refused (BadMessage RowCount)
+example_fetch : fetch_fine 64 [] [] [] 4097 ≡ Err (BadMessage RowCount)
 unfolding fetch_fine rows_fine then_names
 example_fetch = refl

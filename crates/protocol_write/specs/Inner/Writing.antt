@@ -1,8 +1,8 @@
 -- Writing a message from a place of a buffer on, field by field, as the code has it.
-use Rattle.std.specs.Prelude.{Bool, ◌≡◌, refl, List, [], ◌∷◌, ℕ, zero, suc, ◌+◌, ◌*◌, ◌/◌, ◌%◌, ltb, length, get_or}
+use Rattle.std.specs.Prelude.{Bool, ◌≡◌, refl, List, [], ◌∷◌, ℕ, zero, suc, ◌+◌, ◌*◌, ◌/◌, ◌%◌, ltb, length, get_or, Ok, Err, Some, None, Option}
 use Rattle.varint.specs.Choice.{pick}
 use Rattle.varint.specs.Fixed.{put_le}
-use Rattle.varint.specs.Formats.{Got, got, bad}
+use Rattle.varint.specs.Got.{Got}
 use Rattle.varint.specs.Leb128.{put_by, put_u64}
 use Rattle.desc.specs.Emitting.{Pen, put_bytes, put_number, put_name, put_tree}
 use Rattle.desc.specs.Layout.{NameSpan as Place, end_at}
@@ -14,8 +14,6 @@ use Rattle.protocol.specs.Rows.{width_of}
 use Rattle.protocol.specs.declared.message.ControlOp.TheVariants.{Create, Finish, Remove}
 use Rattle.protocol.specs.declared.message.ControlReply.{ControlReply}
 use Rattle.protocol.specs.declared.message.ControlReply.TheVariants as R
-use Rattle.protocol.specs.declared.message.Digest.{Digest}
-use Rattle.protocol.specs.declared.message.Digest.TheVariants.{Absent, Present}
 use Rattle.protocol.specs.declared.message.Message.{Message}
 use Rattle.protocol.specs.declared.message.Message.TheVariants as Msg
 use Rattle.protocol.specs.declared.message.RowKind.{RowKind}
@@ -44,8 +42,8 @@ put_text tx start len s = put_name tx (start, len) (put_number len s)
 
 -- a descriptor; nothing where the nodes are not laid out as one
 unfoldable pub put_at : List ℕ → Got (Tree Place) → Pen → Pen
-put_at tx (got tr next) s = put_tree tx tr s
-put_at tx (bad e) s = s
+put_at tx (Ok (tr, next)) s = put_tree tx tr s
+put_at tx (Err e) s = s
 
 -- Rows
 
@@ -125,9 +123,9 @@ put_page most cursor query tx s =
     put_name tx (query.start, query.len) (put_name tx (cursor.start, cursor.len) (put_fixed 4 cursor.len (put_fixed 8 most s)))
 
 -- a digest behind the byte that says whether there is one
-unfoldable pub put_digest : Digest → Pen → Pen
-put_digest Absent s = put_byte 0 s
-put_digest (Present d) s = put_number d (put_byte 1 s)
+unfoldable pub put_digest : Option ℕ → Pen → Pen
+put_digest None s = put_byte 0 s
+put_digest (Some d) s = put_number d (put_byte 1 s)
 
 -- the whole message
 unfoldable pub put_message : ℕ → Message → List ℕ → List ℕ → List ℕ → Pen → Pen

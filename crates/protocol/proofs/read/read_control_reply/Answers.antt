@@ -1,23 +1,18 @@
-use mathlib.Core.Path.{sym, ◌∙◌, ap}
-use Rattle.protocol.specs.Reply.{read_reply}
-use Rattle.protocol.specs.Inner.FieldsRead.{got_op}
-use Rattle.protocol.proofs.FieldEnds.{op_inside}
+use mathlib.Core.Path.{sym, ◌∙◌}
+use Rattle.protocol.specs.Codes.{op_of}
+use Rattle.protocol.proofs.Knows.{known_is}
 use Rattle.protocol.proofs.MessageFields.{reply_on_lem, finished_same}
-use Rattle.protocol.proofs.MessageReads.{text_refused, bare_text, finished_bare, removed_bare}
+use Rattle.protocol.proofs.MessageReads.{bare_text, finished_bare, removed_bare}
 use Rattle.protocol.proofs.read.read_control_reply.Goals as goal
 
-pub read_removed-requires : goal.read_removed-requires
-read_removed-requires c = op_inside c.args.s.now _ _ (sym c.read_op.ensures ∙ ap got_op c.in-Op.is)
-
-pub returns-in-Refused : goal.returns-in-Refused
-unfolding read_reply
-returns-in-Refused c = text_refused (rw (sym c.read_op.ensures ∙ ap got_op c.in-Refused.is))
-
-pub returns-in-Create : goal.returns-in-Create
-returns-in-Create c = rw (reply_on_lem c.args.check c.args.s.now (sym c.read_op.ensures ∙ ap got_op c.in-Op.is), c.in-Create.is) c.read_created.ensures
-
 pub returns-in-Finish : goal.returns-in-Finish
-returns-in-Finish c = rw (reply_on_lem c.args.check c.args.s.now (sym c.read_op.ensures ∙ ap got_op c.in-Op.is), c.in-Finish.is, finished_same c.args.check c.args.s.now _) (bare_text c.args.check c.args.text.now _ (finished_bare c.args.s.now _) c.read_finished.ensures)
+returns-in-Finish c =
+    let a = c.args in
+    rw (reply_on_lem a.check a.s.now (sym (known_is op_of _ _ c.read_known.ensures) ∙ c.in_ok-op.was), c.in-Finish.is, finished_same a.check a.s.now _)
+    (bare_text a.check a.text.now _ (finished_bare a.s.now _) c.read_finished.ensures)
 
 pub returns-in-Remove : goal.returns-in-Remove
-returns-in-Remove c = rw (reply_on_lem c.args.check c.args.s.now (sym c.read_op.ensures ∙ ap got_op c.in-Op.is), c.in-Remove.is) (bare_text c.args.check c.args.text.now _ (removed_bare c.args.s.now _) c.read_removed.ensures)
+returns-in-Remove c =
+    let a = c.args in
+    rw (reply_on_lem a.check a.s.now (sym (known_is op_of _ _ c.read_known.ensures) ∙ c.in_ok-op.was), c.in-Remove.is)
+    (bare_text a.check a.text.now _ (removed_bare a.s.now _) c.read_removed.ensures)

@@ -4,18 +4,9 @@ use Rattle.protocol_write.specs.Inner.Checking.{row_names}
 use Rattle.protocol_write.proofs.RowLoops.{no_names}
 use Rattle.protocol_write.proofs.checks.check_named.Goals as goal
 
-pub returns-in-Claim : goal.returns-in-Claim
-returns-in-Claim c = c.check_texts.ensures
-
 pub returns-in-Id : goal.returns-in-Id
 unfolding row_names
 returns-in-Id c = rw c.in-Id.is (sym (no_names Id c.args.limit _ _ _ (λ r. refl) _ 0))
-
-pub returns-in-Predicate : goal.returns-in-Predicate
-returns-in-Predicate c = c.check_texts-in-Predicate.ensures
-
-pub returns-in-Step : goal.returns-in-Step
-returns-in-Step c = c.check_texts-in-Step.ensures
 
 pub returns-in-Pair : goal.returns-in-Pair
 unfolding row_names

@@ -1,13 +1,10 @@
 use mathlib.Core.Path.{◌≡◌}
-use Prim.Native.Nat.{◌+◌, ◌*◌, ◌≤◌}
+use Prim.Native.Nat.{◌+◌, ◌-◌, ◌*◌, ◌≤◌}
 use lib.ListN.{length}
 use Rattle.protocol.specs.Rows.{width_of}
 use Rattle.protocol.specs.RowsHeld.{all_good}
 use Rattle.protocol_write.specs.Inner.Checking.{row_good}
 use Rattle.protocol_write.proofs.checks.rows_good.Given as goal
 
-abbrev pub invariant-loop-left : goal.invariant-loop-left
-invariant-loop-left l = (l.r + l.left * width_of l.kind ≤ length l.rows) × (all_good (row_good l.kind l.rows) (width_of l.kind) l.count 0 ≡ all_good (row_good l.kind l.rows) (width_of l.kind) l.left l.r)
-
-abbrev pub decreases-loop-left : goal.decreases-loop-left
-decreases-loop-left l = l.left
+abbrev pub invariant-loop : goal.invariant-loop
+invariant-loop l = (l.r + (l.count - l.counter) * width_of l.kind ≤ length l.rows) × (all_good (row_good l.kind l.rows) (width_of l.kind) l.count 0 ≡ all_good (row_good l.kind l.rows) (width_of l.kind) (l.count - l.counter) l.r)
