@@ -10,7 +10,6 @@ use lib.ListN.{length, take, drop, length-drop}
 use Rattle.varint.specs.Choice.{pick}
 use Rattle.varint.specs.declared.error.Code.{Code}
 use Rattle.varint.proofs.Basics.{pick_both}
-use Rattle.protocol.specs.declared.message.Answer.{Answer}
 use Rattle.frame.specs.declared.FrameHeader.{FrameHeader}
 use Rattle.frame.specs.declared.receiver.Outcome.{Outcome}
 use Rattle.frame.specs.declared.receiver.Outcome.TheVariants.{More, Handed, Stopped, Refused}
@@ -19,6 +18,9 @@ use Rattle.frame.specs.Reading.{Verdict, refuse, gather, judge, Event, frame, ha
 use Rattle.frame.specs.Offering.{Offer, header_held, payload_held, impossible, handed, loads, settles, takes, offering}
 use Rattle.frame.specs.Driving.{plus, Driven, onward, handing, later, drive, steps_in, driving}
 use Rattle.frame.proofs.OfferUses.{Uses, offer_uses, offer_within, handed_uses}
+use Rattle.std.specs.Prelude.{Result}
+use Rattle.varint.specs.declared.error.Refusal.{Refusal}
+use Rattle.protocol.specs.declared.message.Message.{Message}
 
 module _ (l : Limits) where
   -- what follows an offer of p, where `rest` is what other pieces give
@@ -65,7 +67,7 @@ module _ (l : Limits) where
     unfolding turn
     driving_more e = driving_turn ∙ rw (e, turn)
 
-    pub driving_handed : (h : FrameHeader) (a : Answer) → (offering l w p).outcome ≡ Handed h a
+    pub driving_handed : (h : FrameHeader) (a : Result Message Refusal) → (offering l w p).outcome ≡ Handed h a
         → driving l w (p ∷ ps) ≡ handing (frame h a (offering l w p).world.lent) (offering l w p).used (driving l (offering l w p).world (drop (offering l w p).used p ∷ ps))
     unfolding turn
     driving_handed h a e = driving_turn ∙ rw (e, turn)
@@ -157,6 +159,6 @@ module _ (l : Limits) (w : World) (p : List ℕ) where
       (pick_both Took (eqb w.receiver.progress.stop 0) (pick_both Took (impossible l w.receiver.progress) refl at_takes) refl)
       refl
 
-  pub handed_takes : (h : FrameHeader) (a : Answer) → (offering l w p).outcome ≡ Handed h a
+  pub handed_takes : (h : FrameHeader) (a : Result Message Refusal) → (offering l w p).outcome ≡ Handed h a
       → (9 ≤ min 9 header + (offering l w p).used) × ((offering l w p).world.receiver.progress.header_len ≡ 0)
   handed_takes h a e = rw e at took

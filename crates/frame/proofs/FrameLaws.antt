@@ -16,12 +16,10 @@ use Rattle.varint.proofs.StoreLaws.{length_part, part_add, part_cons, filled_fit
 use Rattle.varint.proofs.VarintLaws.{part_bytes}
 use Rattle.frame.specs.declared.Frame.{Frame}
 use Rattle.frame.specs.declared.FrameHeader.{FrameHeader}
-use Rattle.frame.specs.declared.HeaderAnswer.{HeaderAnswer}
-use Rattle.frame.specs.declared.HeaderAnswer.TheVariants.{Header, Refused}
-use Rattle.frame.specs.declared.FrameAnswer.{FrameAnswer}
-use Rattle.frame.specs.declared.FrameAnswer.TheVariants as F
 use Rattle.frame.specs.FrameReturns.{FrameReturns, FrameBytesReturn}
 use Rattle.frame.specs.Frames.{kind_of, stream_of, length_of, header_of, frame_bytes, decode_header, framed, decode_frame, encode_frame}
+use Rattle.std.specs.Prelude.{Result, Ok, Err}
+use Rattle.varint.specs.declared.error.Refusal.{Refusal}
 
 pub never : {X : Type 0} → ◌≡◌ {A = ℕ} 0 1 → X
 never e = absurd (omega arith)
@@ -38,13 +36,13 @@ pub record Heading (max : ℕ) (s : List ℕ) (h : FrameHeader) : Type 0 where
   pub small : length_of s ≤ max
   pub same : h ≡ header_of s
 
-pub heading : (max : ℕ) (s : List ℕ) (h : FrameHeader) → decode_header max s ≡ Header h → Heading max s h
+pub heading : (max : ℕ) (s : List ℕ) (h : FrameHeader) → decode_header max s ≡ Ok h → Heading max s h
 unfolding decode_header
 heading max s h e =
-    pick_cases (λ (x : HeaderAnswer). x ≡ Header h → Heading max s h) (ltb (length s) 9)
+    pick_cases (λ (x : Result FrameHeader Refusal). x ≡ Ok h → Heading max s h) (ltb (length s) 9)
     (λ _ f. never (cc (f)))
     (λ t.
-    pick_cases (λ (x : HeaderAnswer). x ≡ Header h → Heading max s h) (ltb max (length_of s))
+    pick_cases (λ (x : Result FrameHeader Refusal). x ≡ Ok h → Heading max s h) (ltb max (length_of s))
     (λ _ f. never (cc (f)))
     (λ u f. record { room = ltb-false (length s) 9 t; small = ltb-false max (length_of s) u; same = cc (f) }))
     e
@@ -55,12 +53,12 @@ pub record Framing (max : ℕ) (s : List ℕ) (f : Frame) : Type 0 where
   pub fits : length_of s ≤ length s - 9
   pub used : f.used ≡ 9 + length_of s
 
-framed_is : (max : ℕ) (s : List ℕ) (f : Frame) (a : HeaderAnswer) → decode_header max s ≡ a → framed a s ≡ F.Whole f → Framing max s f
+framed_is : (max : ℕ) (s : List ℕ) (f : Frame) (a : Result FrameHeader Refusal) → decode_header max s ≡ a → framed a s ≡ Ok f → Framing max s f
 unfolding framed
-framed_is max s f (Refused e) d p = never (cc)
-framed_is max s f (Header h) d p =
+framed_is max s f (Err e) d p = never (cc)
+framed_is max s f (Ok h) d p =
     let g = heading max s h d in
-    pick_cases (λ (x : FrameAnswer). x ≡ F.Whole f → Framing max s f) (ltb (length s - 9) h.length)
+    pick_cases (λ (x : Result Frame Refusal). x ≡ Ok f → Framing max s f) (ltb (length s - 9) h.length)
     (λ _ q. never (cc (q)))
     (λ t q.
     let k : h.length ≤ length s - 9 = ltb-false (length s - 9) h.length t in
@@ -70,7 +68,7 @@ framed_is max s f (Header h) d p =
     record { header = rw same at g; fits = omega arith; used = omega arith })
     p
 
-pub framing : (max : ℕ) (s : List ℕ) (f : Frame) → decode_frame max s ≡ F.Whole f → Framing max s f
+pub framing : (max : ℕ) (s : List ℕ) (f : Frame) → decode_frame max s ≡ Ok f → Framing max s f
 unfolding decode_frame
 framing max s f e = framed_is max s f (decode_header max s) refl e
 
@@ -99,7 +97,7 @@ module _ (kind stream : ℕ) (payload rest : List ℕ) where
   -- whatever follows it
   pub frame_back : (max : ℕ) → stream < 4294967296 → max < 4294967296 → length payload ≤ max
       → decode_frame max (frame_bytes kind stream payload ++ rest)
-      ≡ F.Whole (record { header = record { kind = kind; stream = stream; length = length payload }; used = 9 + length payload })
+      ≡ Ok (record { header = record { kind = kind; stream = stream; length = length payload }; used = 9 + length payload })
   unfolding whole decode_frame framed decode_header
   frame_back max hs hm hp =
       let l : length whole ≡ 9 + length payload + length rest = simp (length-append, length_frame_bytes) in

@@ -9,7 +9,6 @@ use borrow.Author.Tests.{ltb-false, lt-ltb, le-ltb, leb-false}
 use lib.Dec.{ltb, eqb}
 use lib.ListN.{length, take, drop, length-append, length-take, length-drop}
 use Rattle.varint.proofs.Basics.{pick_cases, clash, below}
-use Rattle.protocol.specs.declared.message.Answer.{Answer}
 use Rattle.frame.specs.declared.FrameHeader.{FrameHeader}
 use Rattle.frame.specs.declared.receiver.Receiver.{Receiver}
 use Rattle.frame.specs.declared.receiver.Outcome.{Outcome}
@@ -17,6 +16,9 @@ use Rattle.frame.specs.declared.receiver.Outcome.TheVariants.{More, Handed, Stop
 use Rattle.frame.specs.Worlds.{Limits, World}
 use Rattle.frame.specs.Reading.{Verdict, refuse, gather, judge}
 use Rattle.frame.specs.Offering.{Offer, header_held, payload_held, overfull, impossible, handed, loads, settles, takes, offering}
+use Rattle.std.specs.Prelude.{Result}
+use Rattle.varint.specs.declared.error.Refusal.{Refusal}
+use Rattle.protocol.specs.declared.message.Message.{Message}
 
 -- of the piece's n bytes: all, and more is wanted; some, to a frame's end or a stop; none where the offer is refused
 abbrev pub Uses : Outcome → (used n : ℕ) → Type 0
@@ -108,5 +110,5 @@ module _ (l : Limits) where
     pub more_uses : (offering l w p).outcome ≡ More → (offering l w p).used ≡ length p
     more_uses e = rw e at offer_uses
 
-    pub handed_uses : (h : FrameHeader) (a : Answer) → (offering l w p).outcome ≡ Handed h a → 0 < (offering l w p).used
+    pub handed_uses : (h : FrameHeader) (a : Result Message Refusal) → (offering l w p).outcome ≡ Handed h a → 0 < (offering l w p).used
     handed_uses h a e = (rw e at offer_uses).0

@@ -1,72 +1,27 @@
 -- Each way out of the receiver's functions, over plain values.
-use mathlib.Core.Path.{◌≡◌, refl, sym, ap, subst, ◌∙◌}
+use mathlib.Core.Path.{◌≡◌, refl, sym, ap, ◌∙◌}
 use mathlib.Core.Bool.{Bool, true, false, true≢false}
 use mathlib.Core.List.{List, [], ◌++◌, append-nil}
 use Prim.Native.Nat.{ℕ, zero, suc, ◌+◌, ◌-◌, ◌≤◌, ◌<◌, min}
 use native.Mathlib.Nat.{sub-zero, zero-sub, suc-sub-suc}
 use native.Mathlib.Omega.{arith}
-use borrow.Author.Tests.{lt-ltb, le-ltb, ltb-true, ltb-false, leb-false, eq-eqb, ne_eqb}
+use borrow.Author.Tests.{lt-ltb, le-ltb, ltb-true, ltb-false, leb-false, eq-eqb}
 use lib.Dec.{ltb, leb}
 use lib.ListN.{length, take, drop, get_or, replicate, length-append, length-take, length-drop, length-replicate, drop_of_length-le}
 use lib.Seq.{sets, sets-eq, take_at, drop-append-add, take_all, length-take-le, length-sets}
-use Rattle.varint.specs.Choice.{pick}
-use Rattle.varint.specs.Refusals.{code_of}
-use Rattle.varint.specs.Stores.{part, clear_from}
-use Rattle.varint.proofs.StoreLaws.{length_clear}
-use Rattle.varint.specs.declared.error.Buffer.TheVariants.{Hold}
-use Rattle.varint.specs.declared.error.Code.{Code}
+use Rattle.varint.specs.Stores.{part, fill_from, clear_from}
 use Rattle.varint.specs.declared.error.Refusal.{Refusal}
-use Rattle.varint.specs.declared.error.Refusal.TheVariants.{BadReceiver, BlockTooLarge, TooSmall}
 use Rattle.protocol.specs.Decoding.{Left, decode_message}
-use Rattle.protocol.specs.declared.message.Answer.{Answer}
 use Rattle.frame.specs.declared.FrameHeader.{FrameHeader}
-use Rattle.frame.specs.declared.HeaderAnswer.{HeaderAnswer}
-use Rattle.frame.specs.declared.HeaderAnswer.TheVariants.{Header, Refused}
-use Rattle.frame.specs.declared.receiver.Stepped.{Stepped}
-use Rattle.frame.specs.declared.receiver.Outcome.TheVariants.{More, Handed, Stopped, Refused as Declined}
+use Rattle.frame.specs.declared.receiver.Outcome.TheVariants.{More, Handed}
 use Rattle.frame.specs.declared.receiver.Progress.{Progress}
 use Rattle.frame.specs.declared.receiver.Receiver.{Receiver}
-use Rattle.frame.specs.Frames.{length_of, header_of, decode_header}
-use Rattle.frame.specs.Worlds.{World, editor, progress_of, running, pad}
-use Rattle.frame.specs.Reading.{Verdict, refuse, gather, judge, decoded_kind}
-use Rattle.frame.specs.declared.receiver.Opening.TheVariants.{Accepted}
-use Rattle.frame.specs.Offering.{Opens, opens, stop_of, setup_of, header_held, overfull, impossible, handed, loads, settles, takes, offering, world_of, offer_at}
-
--- ---- nine header bytes
-
--- what `decode_header` says of nine bytes, told as the reading has it
-abbrev pub Sorted : (room : ℕ) → List ℕ → HeaderAnswer → Type 0
-Sorted room hd (Refused e) = judge editor room hd ≡ refuse e
-Sorted room hd (Header h) = (h ≡ header_of hd) × (ltb 67108864 (length_of hd) ≡ false)
-
-sorted_by : (room : ℕ) (hd : List ℕ) (b : Bool) → ltb 67108864 (length_of hd) ≡ b
-    → Sorted room hd (pick b (Refused (BlockTooLarge (length_of hd) 67108864)) (Header (header_of hd)))
-unfolding judge
-sorted_by room hd true e = rw e
-sorted_by room hd false e = (refl, e)
-
-pub sorted : (room : ℕ) (hd : List ℕ) {x y : HeaderAnswer} → length hd ≡ 9 → x ≡ decode_header 67108864 hd → x ≡ y → Sorted room hd y
-unfolding decode_header
-sorted room hd n e g =
-    let l : 9 ≤ length hd = omega arith in
-    let f : decode_header 67108864 hd ≡ pick (ltb 67108864 (length_of hd)) (Refused (BlockTooLarge (length_of hd) 67108864)) (Header (header_of hd)) = rw (le-ltb (length hd) 9 l) in
-    subst (Sorted room hd) (sym (e ∙ f) ∙ g) (sorted_by room hd (ltb 67108864 (length_of hd)) refl)
-
--- the hold is too small, or not
-pub small_hold : (room : ℕ) (hd : List ℕ) (h : FrameHeader) → Sorted room hd (Header h) → room < h.length → judge editor room hd ≡ refuse (TooSmall Hold h.length)
-unfolding judge
-small_hold room hd h (e, f) l =
-    let n : h.length ≡ length_of hd = ap (λ (x : FrameHeader). x.length) e in
-    let m : room < length_of hd = omega arith in
-    rw (f, lt-ltb room (length_of hd) m, n)
-
-pub gathers : (room : ℕ) (hd : List ℕ) (h : FrameHeader) → Sorted room hd (Header h) → h.length ≤ room
-    → (judge editor room hd ≡ gather h.length) × (h ≡ header_of hd) × (h.length ≤ room)
-unfolding judge
-gathers room hd h (e, f) l =
-    let n : h.length ≡ length_of hd = ap (λ (x : FrameHeader). x.length) e in
-    let m : length_of hd ≤ room = omega arith in
-    (rw (f, le-ltb room (length_of hd) m, n), e, l)
+use Rattle.frame.specs.Frames.{header_of}
+use Rattle.frame.specs.Worlds.{World, editor, progress_of, pad}
+use Rattle.frame.specs.Reading.{Verdict, gather, judge, decoded_kind}
+use Rattle.frame.specs.Offering.{stop_of, setup_of, header_held, overfull, impossible, handed, loads, settles, takes, offering, world_of, offer_at}
+use Rattle.std.specs.Prelude.{Result}
+use Rattle.protocol.specs.declared.message.Message.{Message}
 
 -- ---- impossible counts
 
@@ -98,18 +53,8 @@ copied_whole x z n e f =
     rw t (sets-eq x z 0 l ∙ rw d (append-nil x))
 
 pub cleared : (d : List ℕ) → clear_from d 0 ≡ replicate (length d) 0
-unfolding clear_from
+unfolding fill_from
 cleared d = rw sub-zero
-
--- ---- an opening
-
-pub opened_over : (r : Receiver) (entries table hold hold' : List ℕ) (p : Progress) → length table ≡ 256 → entries ≡ table → hold' ≡ clear_from hold 0
-    → p ≡ progress_of (length hold') (replicate 9 0) 0 0 running
-    → ◌≡◌ {A = Opens} (record { opening = Accepted; receiver = record { table = entries; progress = p }; hold = hold' }) (opens r table hold)
-unfolding opens
-opened_over r entries table hold hold' p n e h q =
-    let z : length hold' ≡ length hold = rw h (length_clear hold 0) in
-    rw (q, eq-eqb _ _ n, z, h, cleared hold, e)
 
 -- ---- the header that is held, and the bytes that it lacks
 
@@ -120,7 +65,7 @@ drop_zeros (suc k) (suc n) = rw suc-sub-suc (drop_zeros k n)
 
 pub header_filled : (held z p : List ℕ) (at : ℕ) → length held ≡ 9 → at ≤ 9 → z ≡ clear_from held at
     → sets z at (part p 0 (9 - at)) ≡ pad 9 (take at held ++ take (9 - at) p)
-unfolding clear_from part pad
+unfolding fill_from part pad
 header_filled held z p at n l c =
     let a : length (take at held) ≡ at = length-take-le at held (omega arith) in
     let m : length (take (9 - at) p) ≤ 9 - at = rw length-take (omega arith) in
@@ -144,7 +89,7 @@ header_kept held p at n e =
 
 -- ---- a frame is handed out
 
-pub handed_out : (r : Receiver) (p' : Progress) (h : FrameHeader) (u entry : ℕ) (a : Answer) (hold hold' text rows nodes text' rows' nodes' : List ℕ)
+pub handed_out : (r : Receiver) (p' : Progress) (h : FrameHeader) (u entry : ℕ) (a : Result Message Refusal) (hold hold' text rows nodes text' rows' nodes' : List ℕ)
     → entry ≡ get_or r.table h.kind 0
     → ◌≡◌ {A = Left} (record { answer = a; text = text'; rows = rows'; nodes = nodes' }) (decode_message 67108864 64 entry (take h.length hold) text rows nodes)
     → hold' ≡ clear_from hold 0 → p' ≡ progress_of r.progress.hold_len (replicate 9 0) 0 0 (stop_of r)
@@ -195,41 +140,11 @@ module _ (r : Receiver) (bytes : List ℕ) (u n : ℕ) (piece hold hold' text ro
       let z : length hold' ≡ length hold = rw stored (length-sets hold r.progress.payload_len (part piece u (n - r.progress.payload_len))) in
       rw (le-ltb _ _ k, loaded_take l, z, e)
 
--- ---- a stop
-
-pub stopped_run : (r : Receiver) (p' : Progress) (bytes : List ℕ) (u : ℕ) (e : Refusal) (code : Code) (q hold hold' text rows nodes : List ℕ)
-    → judge editor r.progress.hold_len bytes ≡ refuse e → code ≡ code_of e → hold' ≡ clear_from hold 0 → p' ≡ progress_of r.progress.hold_len bytes 9 0 code
-    → offer_at r.table (record { progress = p'; used = u; outcome = Stopped code }) hold' text rows nodes
-    ≡ settles editor (judge editor r.progress.hold_len bytes) (world_of r hold text rows nodes) bytes u q
-unfolding settles
-stopped_run r p' bytes u e code q hold hold' text rows nodes j c h f = rw (j, h, cleared hold, f, c)
-
-pub gathered : (r : Receiver) (bytes : List ℕ) (u n : ℕ) (q hold text rows nodes : List ℕ) → judge editor r.progress.hold_len bytes ≡ gather n
-    → loads editor (world_of r hold text rows nodes) bytes u q n ≡ settles editor (judge editor r.progress.hold_len bytes) (world_of r hold text rows nodes) bytes u q
-unfolding settles
-gathered r bytes u n q hold text rows nodes j = rw j
-
 -- ---- an offer
 
 module _ (r : Receiver) (piece hold text rows nodes : List ℕ) where
   abbrev here : World
   here = world_of r hold text rows nodes
-
-  abbrev Refuses : Stepped → Code → Type 0
-  Refuses o e = o ≡ record { progress = r.progress; used = 0; outcome = Declined e }
-
-  pub wrong_hold : (o : Stepped) (e : Code) → (length hold ≡ r.progress.hold_len → ⊥) → e ≡ code_of BadReceiver → Refuses o e → offer_at r.table o hold text rows nodes ≡ offering editor here piece
-  unfolding offering
-  wrong_hold o e n c d = rw (ne_eqb _ _ n, d, c)
-
-  pub stopped_before : (o : Stepped) → length hold ≡ r.progress.hold_len → (r.progress.stop ≡ 0 → ⊥) → Refuses o (stop_of r) → offer_at r.table o hold text rows nodes ≡ offering editor here piece
-  unfolding offering
-  stopped_before o l n d = rw (eq-eqb _ _ l, ne_eqb _ _ n, d)
-
-  pub wrong_counts : (o : Stepped) (e : Code) → length hold ≡ r.progress.hold_len → r.progress.stop ≡ 0 → impossible editor r.progress ≡ true → e ≡ code_of BadReceiver → Refuses o e
-      → offer_at r.table o hold text rows nodes ≡ offering editor here piece
-  unfolding offering
-  wrong_counts o e l s i c d = rw (eq-eqb _ _ l, eq-eqb _ _ s, i, d, c)
 
   module _ (same : length hold ≡ r.progress.hold_len) (runs : r.progress.stop ≡ 0) (possible : impossible editor r.progress ≡ false) (nine : length r.progress.header ≡ 9) where
     goes_on : offering editor here piece ≡ takes editor here piece

@@ -1,5 +1,5 @@
 -- Opening a receiver, and offering it a piece: what both do for every receiver and all lent memory.
-use Rattle.std.specs.Prelude.{Bool, true, ◌≡◌, refl, List, [], ◌∷◌, ◌++◌, ℕ, ◌+◌, ◌-◌, eqb, ltb, leb, length, take, drop, replicate}
+use Rattle.std.specs.Prelude.{Bool, true, ◌≡◌, refl, List, [], ◌∷◌, ◌++◌, ℕ, ◌+◌, ◌-◌, eqb, ltb, leb, length, take, drop, replicate, Result, Ok, Err}
 use Rattle.varint.specs.Choice.{pick}
 use Rattle.varint.specs.Fixed.{le}
 use Rattle.varint.specs.Refusals.{code_of}
@@ -9,8 +9,6 @@ use Rattle.varint.specs.declared.error.Refusal.TheVariants.{BadReceiver, BadKind
 use Rattle.protocol.specs.Decoding.{Left}
 use Rattle.frame.specs.declared.receiver.Progress.{Progress}
 use Rattle.frame.specs.declared.receiver.Receiver.{Receiver}
-use Rattle.frame.specs.declared.receiver.Opening.{Opening}
-use Rattle.frame.specs.declared.receiver.Opening.TheVariants as O
 use Rattle.frame.specs.declared.receiver.Offered.{Offered}
 use Rattle.frame.specs.declared.receiver.Stepped.{Stepped}
 use Rattle.frame.specs.declared.receiver.Outcome.{Outcome}
@@ -19,11 +17,12 @@ use Rattle.frame.specs.declared.FrameHeader.{FrameHeader}
 use Rattle.frame.specs.Frames.{kind_of, length_of, header_of}
 use Rattle.frame.specs.Worlds.{Limits, Setup, World, editor, receiver_of, running, pad}
 use Rattle.frame.specs.Reading.{Verdict, refuse, gather, judge, decoded_kind, lent_by}
+use Rattle.varint.specs.declared.error.Refusal.{Refusal}
 
 -- ---- opening
 
 pub record Opens : Type 0 where
-  pub opening : Opening
+  pub opening : Result (Unit {0}) Refusal
   pub receiver : Receiver
   pub hold : List ℕ
 
@@ -32,11 +31,11 @@ unfoldable pub opens : Receiver → (table hold : List ℕ) → Opens
 opens r table hold =
     pick (eqb (length table) 256)
     (record {
-      opening = O.Accepted;
+      opening = Ok tt;
       receiver = receiver_of (record { table = table; room = length hold }) (replicate 9 0) 0 0 running;
       hold = replicate (length hold) 0;
     })
-    (record { opening = O.Refused (BadKindTable (length table)); receiver = r; hold = hold })
+    (record { opening = Err (BadKindTable (length table)); receiver = r; hold = hold })
 
 -- ---- an offer
 
@@ -135,12 +134,12 @@ sample room g n e = record { receiver = receiver_of (record { table = 4 ∷ 7 �
 
 -- 256 entries: the table is kept, header and counts are zero, the hold is cleared and its length kept
 example_opened : opens (sample 3 9 9 (code_of BadReceiver)).receiver (replicate 256 7) (6 ∷ 6 ∷ [])
-    ≡ record { opening = O.Accepted; receiver = receiver_of (record { table = replicate 256 7; room = 2 }) (replicate 9 0) 0 0 running; hold = 0 ∷ 0 ∷ [] }
+    ≡ record { opening = Ok tt; receiver = receiver_of (record { table = replicate 256 7; room = 2 }) (replicate 9 0) 0 0 running; hold = 0 ∷ 0 ∷ [] }
 unfolding opens sample
 example_opened = refl
 
 -- 255 entries are 18(255): receiver and hold stay as they were
-example_table : opens (sample 3 1 0 running).receiver (replicate 255 7) (6 ∷ 6 ∷ []) ≡ record { opening = O.Refused (BadKindTable 255); receiver = (sample 3 1 0 running).receiver; hold = 6 ∷ 6 ∷ [] }
+example_table : opens (sample 3 1 0 running).receiver (replicate 255 7) (6 ∷ 6 ∷ []) ≡ record { opening = Err (BadKindTable 255); receiver = (sample 3 1 0 running).receiver; hold = 6 ∷ 6 ∷ [] }
 unfolding opens sample
 example_table = refl
 

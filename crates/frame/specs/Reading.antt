@@ -1,5 +1,5 @@
 -- The reading of a run: what a whole run of bytes means, however it came. Demand 3 holds everything that is offered in pieces against it.
-use Rattle.std.specs.Prelude.{List, [], ◌∷◌, ℕ, zero, suc, ◌+◌, ◌-◌, min, ltb, length, take, drop, get_or, replicate}
+use Rattle.std.specs.Prelude.{List, [], ◌∷◌, ℕ, zero, suc, ◌+◌, ◌-◌, min, ltb, length, take, drop, get_or, replicate, Result}
 use Rattle.varint.specs.Choice.{pick}
 use Rattle.varint.specs.Refusals.{code_of}
 use Rattle.varint.specs.declared.error.Code.{Code}
@@ -7,15 +7,15 @@ use Rattle.varint.specs.declared.error.Buffer.TheVariants.{Hold}
 use Rattle.varint.specs.declared.error.Refusal.{Refusal}
 use Rattle.varint.specs.declared.error.Refusal.TheVariants.{BlockTooLarge, TooSmall}
 use Rattle.protocol.specs.Decoding.{Left, decode_message}
-use Rattle.protocol.specs.declared.message.Answer.{Answer}
 use Rattle.frame.specs.declared.FrameHeader.{FrameHeader}
 use Rattle.frame.specs.Frames.{kind_of, length_of, header_of}
 use Rattle.frame.specs.Worlds.{Limits, Setup, Lent, World, receiver_of, running, pad}
+use Rattle.protocol.specs.declared.message.Message.{Message}
 
 -- what is handed out: a frame "by kind, stream, length, and message or refusal with details, and by text, rows and nodes as they stand
 -- when it is handed out"; or the stop's refusal. A driver can also meet an offer that is refused while nothing stopped the run: no reading has that.
 pub data Event : Type 0 where
-  frame : FrameHeader → Answer → Lent → Event
+  frame : FrameHeader → Result Message Refusal → Lent → Event
   halt : Code → Event
   denied : Code → Event
 

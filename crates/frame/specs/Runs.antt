@@ -1,5 +1,5 @@
 -- Demand 3 as one statement, and small runs worked out.
-use Rattle.std.specs.Prelude.{true, ◌≡◌, refl, List, [], ◌∷◌, ◌++◌, map, ℕ, ◌-◌, eqb, leb, length, replicate}
+use Rattle.std.specs.Prelude.{true, ◌≡◌, refl, List, [], ◌∷◌, ◌++◌, map, ℕ, ◌-◌, eqb, leb, length, replicate, Ok, Err}
 use Rattle.varint.specs.Choice.{pick}
 use Rattle.varint.specs.Fixed.{le}
 use Rattle.varint.specs.Leb128.{read_from, get_u64}
@@ -13,7 +13,6 @@ use Rattle.varint.specs.declared.error.Refusal.TheVariants.{TooSmall, TypeMismat
 use Rattle.protocol.specs.Control.{read_control, lay_control}
 use Rattle.protocol.specs.Decoding.{decode_message, settled, fitted}
 use Rattle.protocol.specs.Said.{read_message, read_entry, lay}
-use Rattle.protocol.specs.declared.message.Answer.TheVariants.{Accepted, Refused}
 use Rattle.protocol.specs.declared.message.ControlOp.TheVariants.{Finish}
 use Rattle.protocol.specs.declared.message.Message.TheVariants as Msg
 use Rattle.frame.specs.declared.receiver.Receiver.{Receiver}
@@ -77,7 +76,7 @@ cleared : List ℕ → Lent
 cleared text = record { text = text; rows = 0 ∷ []; nodes = [] }
 
 opaque : ℕ → ℕ → ℕ → ℕ → List ℕ → Rattle.frame.specs.Reading.Event
-opaque kind stream len n text = frame (record { kind = kind; stream = stream; length = len }) (Accepted (Msg.Opaque (record { start = 0; len = n }))) (cleared text)
+opaque kind stream len n text = frame (record { kind = kind; stream = stream; length = len }) (Ok (Msg.Opaque (record { start = 0; len = n }))) (cleared text)
 
 example_read : reading editor (setup 5) (joined pieces) (lent (1 ∷ 2 ∷ 3 ∷ 4 ∷ []))
     ≡ record {
@@ -126,8 +125,8 @@ stopped = record {
 -- the stop's refusal once in the run, and again from each of the two offers after it
 example_session : driving editor session cuts ≡ record {
   run = record {
-    events = frame (record { kind = 42; stream = 1; length = 5 }) (Accepted (Msg.Control Finish (record { start = 0; len = 1 }) true (record { start = 1; len = 0 }))) shown
-        ∷ frame (record { kind = 42; stream = 2; length = 3 }) (Refused (TypeMismatch M.ControlFlag)) shown
+    events = frame (record { kind = 42; stream = 1; length = 5 }) (Ok (Msg.Control Finish (record { start = 0; len = 1 }) true (record { start = 1; len = 0 }))) shown
+        ∷ frame (record { kind = 42; stream = 2; length = 3 }) (Err (TypeMismatch M.ControlFlag)) shown
         ∷ halt (code_of (TooSmall Hold 6)) ∷ [];
     used = 35;
     world = stopped;

@@ -10,16 +10,15 @@ pub mod kinds;
 pub mod receiver;
 pub mod slot;
 
-ghost use Rattle.std.specs.Prelude.{◌≡◌, ◌+◌, ◌≤◌, ltb, length};
-ghost use Rattle.varint.specs.Choice.{pick};
+ghost use Rattle.std.specs.Prelude.{◌≡◌, ◌+◌, ◌≤◌, length};
 ghost use Rattle.varint.specs.Fixed.{le};
 ghost use Rattle.varint.specs.Stores.{part};
 ghost use Rattle.frame.specs.Frames.{encode_frame, decode_header, decode_frame};
 
+use varint::Written;
 use varint::error::{Buffer, Refusal};
 use varint::fixed::{get_u32_le, put_u32_le};
-use varint::store::{clear_bytes, copy_bytes, store_byte};
-use varint::{ReadU64, Written};
+use varint::store::{copy_bytes, fill_from, store};
 
 // A frame's header, decoded. `kinds::FrameKind` names the kinds.
 #[derive(Clone, Copy)]
@@ -29,23 +28,11 @@ pub struct FrameHeader {
     pub length: u32,
 }
 
-#[derive(Clone, Copy)]
-pub enum HeaderAnswer {
-    Header(FrameHeader),
-    Refused(Refusal),
-}
-
 // A whole frame: its payload stands behind the header's bytes, up to the `used` bytes of frame in all.
 #[derive(Clone, Copy)]
 pub struct Frame {
     pub header: FrameHeader,
     pub used: usize,
-}
-
-#[derive(Clone, Copy)]
-pub enum FrameAnswer {
-    Whole(Frame),
-    Refused(Refusal),
 }
 
 impl Frame {
@@ -56,45 +43,28 @@ impl Frame {
     pub const MAX_PAYLOAD: u64 = desc::MAX_PAYLOAD;
 }
 
-// A payload's length as its header has it.
-#[derive(Clone, Copy)]
-enum FrameLength {
-    Fits(u32),
-    TooLong,
-}
-
-fn frame_length(len: usize) -> FrameLength
-    ensures { result ≡ pick (ltb 67108864 len) FrameLength.TooLong (FrameLength.Fits len) }
-{
-    if Frame::MAX_PAYLOAD < len as u64 {
-        return FrameLength::TooLong;
-    }
-    FrameLength::Fits(len as u32)
-}
-
 // Writes the frame of a payload, and zeros after it; or a refusal, and nothing is written.
+#[tactic(auto, unfolding(crate::specs::Frames::encode_frame, varint::specs::Outs::wrote, varint::specs::Stores::filled), using(crate::proofs::FrameLaws::length_frame_bytes))]
 pub fn encode_frame(kind: u8, stream: u32, payload: &[u8], out: &mut [u8]) -> Written
     ensures { record { answer = result; out = out.new } ≡ encode_frame 67108864 kind stream payload.now out.old }
 {
-    let FrameLength::Fits(length) = frame_length(payload.len()) else {
-        return Written::Refused(Refusal::BlockTooLarge {
-            declared: payload.len() as u64,
+    let length = payload.len();
+    if Frame::MAX_PAYLOAD < length as u64 {
+        return Err(Refusal::BlockTooLarge {
+            declared: length as u64,
             max: Frame::MAX_PAYLOAD,
         });
-    };
-    let size = Frame::HEADER_LEN + payload.len();
-    if out.len() < size {
-        return Written::Refused(Refusal::TooSmall {
-            which: Buffer::Out,
-            needed: size as u64,
-        });
     }
-    store_byte(out, 0, kind);
+    let size = Frame::HEADER_LEN + length;
+    if out.len() < size {
+        return Err(Refusal::too_small(Buffer::Out, size));
+    }
+    store(out, 0, kind);
     put_u32_le(out, 1, stream);
-    put_u32_le(out, 5, length);
-    copy_bytes(payload, 0, payload.len(), out, Frame::HEADER_LEN);
-    clear_bytes(out, size);
-    Written::Wrote { len: size }
+    put_u32_le(out, 5, length as u32);
+    copy_bytes(payload, 0, length, out, Frame::HEADER_LEN);
+    fill_from(out, size, 0);
+    Ok(size)
 }
 
 // The header's field of 4 bytes at place `at`.
@@ -103,26 +73,27 @@ fn header_field(bytes: &[u8], at: usize) -> u32
     ensures { result ≡ le (part bytes.now at 4) }
 {
     match get_u32_le(bytes, at) {
-        ReadU64::Value { value, next: _ } => value as u32,
-        ReadU64::Refused(_) => 0,
+        Ok((value, _)) => value as u32,
+        Err(_) => 0,
     }
 }
 
 // Reads a frame's header without waiting for its payload.
-pub fn decode_header(bytes: &[u8]) -> HeaderAnswer
+#[tactic(auto, unfolding(crate::specs::Frames::decode_header, crate::specs::Frames::kind_of, crate::specs::Frames::stream_of, crate::specs::Frames::length_of))]
+pub fn decode_header(bytes: &[u8]) -> Result<FrameHeader, Refusal>
     ensures { result ≡ decode_header 67108864 bytes.now }
 {
     if bytes.len() < Frame::HEADER_LEN {
-        return HeaderAnswer::Refused(Refusal::UnexpectedEof);
+        return Err(Refusal::UnexpectedEof);
     }
     let length = header_field(bytes, 5);
     if Frame::MAX_PAYLOAD < length as u64 {
-        return HeaderAnswer::Refused(Refusal::BlockTooLarge {
+        return Err(Refusal::BlockTooLarge {
             declared: length as u64,
             max: Frame::MAX_PAYLOAD,
         });
     }
-    HeaderAnswer::Header(FrameHeader {
+    Ok(FrameHeader {
         kind: bytes[0],
         stream: header_field(bytes, 1),
         length,
@@ -130,23 +101,21 @@ pub fn decode_header(bytes: &[u8]) -> HeaderAnswer
 }
 
 // Reads one whole frame.
-pub fn decode_frame(bytes: &[u8]) -> FrameAnswer
+#[tactic(auto, unfolding(crate::specs::Frames::decode_frame, crate::specs::Frames::framed, crate::specs::Frames::decode_header))]
+pub fn decode_frame(bytes: &[u8]) -> Result<Frame, Refusal>
     ensures { result ≡ decode_frame 67108864 bytes.now }
 {
-    match decode_header(bytes) {
-        HeaderAnswer::Refused(e) => FrameAnswer::Refused(e),
-        HeaderAnswer::Header(header) => {
-            let available = bytes.len() - Frame::HEADER_LEN;
-            if available < header.length as usize {
-                return FrameAnswer::Refused(Refusal::LengthOutOfRange {
-                    declared: header.length as u64,
-                    available: available as u64,
-                });
-            }
-            FrameAnswer::Whole(Frame {
-                header,
-                used: Frame::HEADER_LEN + header.length as usize,
-            })
-        }
+    let header = decode_header(bytes)?;
+    let length = header.length as usize;
+    let available = bytes.len() - Frame::HEADER_LEN;
+    if available < length {
+        return Err(Refusal::LengthOutOfRange {
+            declared: header.length as u64,
+            available: available as u64,
+        });
     }
+    Ok(Frame {
+        header,
+        used: Frame::HEADER_LEN + length,
+    })
 }

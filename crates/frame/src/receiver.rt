@@ -7,11 +7,11 @@ ghost use Rattle.frame.specs.Frames.{header_of};
 ghost use Rattle.frame.specs.Inner.Judging.{Judges};
 ghost use Rattle.frame.specs.declared.receiver.Outcome.TheVariants.{Refused as Declined};
 
-use crate::{Frame, FrameHeader, HeaderAnswer, decode_header};
+use crate::{Frame, FrameHeader, decode_header};
 use protocol::decode;
-use protocol::message::Answer;
-use varint::error::{Buffer, Code, Refusal, code_of};
-use varint::store::{clear_bytes, copy_bytes};
+use protocol::message::Message;
+use varint::error::{Buffer, Code, Refusal};
+use varint::store::{copy_bytes, fill_from};
 
 // What an offer advances. A stop is the refusal's number and details, and 0 while the receiver runs.
 #[repr(C)]
@@ -35,17 +35,11 @@ pub struct Receiver {
     pub progress: Progress,
 }
 
-#[derive(Clone, Copy)]
-pub enum Opening {
-    Accepted,
-    Refused(Refusal),
-}
-
 // The receiver just opened, or as it was before.
 #[derive(Clone, Copy)]
 pub struct Opened {
     pub receiver: Receiver,
-    pub opening: Opening,
+    pub opening: Result<(), Refusal>,
 }
 
 #[derive(Clone, Copy)]
@@ -53,7 +47,10 @@ pub enum Outcome {
     // The piece is used up.
     More,
     // A frame, with its message or the refusal of it.
-    Handed { header: FrameHeader, answer: Answer },
+    Handed {
+        header: FrameHeader,
+        answer: Result<Message, Refusal>,
+    },
     // The run stops here.
     Stopped(Code),
     // Nothing was used or altered.
@@ -73,13 +70,6 @@ pub struct Stepped {
     pub progress: Progress,
     pub used: usize,
     pub outcome: Outcome,
-}
-
-// What nine header bytes say: the run stops, or so much payload is to be gathered.
-#[derive(Clone, Copy)]
-enum Verdict {
-    Refuse(Refusal),
-    Gather(FrameHeader),
 }
 
 // Nothing is held yet.
@@ -107,6 +97,7 @@ pub fn unopened() -> Receiver
     }
 }
 
+#[tactic(auto, using(crate::proofs::ReceiverSteps::copied_whole))]
 fn kind_table(table: &[u8]) -> [u8; 256]
     requires { length table.now ≡ 256 }
     ensures { result ≡ table.now }
@@ -117,44 +108,42 @@ fn kind_table(table: &[u8]) -> [u8; 256]
 }
 
 // Opens a receiver over a kind table and a hold, and clears the hold.
+#[tactic(auto, unfolding(crate::specs::Offering::opens), using(crate::proofs::ReceiverSteps::cleared))]
 pub fn open(receiver: Receiver, table: &[u8], hold: &mut [u8]) -> Opened
     ensures { record { opening = result.opening; receiver = result.receiver; hold = hold.new } ≡ opens receiver table.now hold.old }
 {
     if table.len() != 256 {
         return Opened {
             receiver,
-            opening: Opening::Refused(Refusal::BadKindTable(table.len() as u64)),
+            opening: Err(Refusal::BadKindTable(table.len() as u64)),
         };
     }
     let entries = kind_table(table);
-    clear_bytes(hold, 0);
+    fill_from(hold, 0, 0);
     Opened {
         receiver: Receiver {
             table: entries,
             progress: start(hold.len()),
         },
-        opening: Opening::Accepted,
+        opening: Ok(()),
     }
 }
 
-fn judge(header: [u8; 9], room: usize) -> Verdict
+// What nine header bytes say: the run stops, or so much payload is to be gathered.
+#[tactic(auto, unfolding(crate::specs::Frames::decode_header, crate::specs::Reading::judge))]
+fn judge(header: [u8; 9], room: usize) -> Result<FrameHeader, Refusal>
     ensures { Judges editor room header result }
 {
-    match decode_header(&header) {
-        HeaderAnswer::Refused(e) => Verdict::Refuse(e),
-        HeaderAnswer::Header(h) => {
-            if room < h.length as usize {
-                return Verdict::Refuse(Refusal::TooSmall {
-                    which: Buffer::Hold,
-                    needed: h.length as u64,
-                });
-            }
-            Verdict::Gather(h)
-        }
+    let judged = decode_header(&header)?;
+    let length = judged.length as usize;
+    if room < length {
+        return Err(Refusal::too_small(Buffer::Hold, length));
     }
+    Ok(judged)
 }
 
 // Counts that no offer leaves.
+#[tactic(auto, unfolding(crate::specs::Offering::impossible))]
 fn impossible(progress: Progress) -> bool
     ensures { result ≡ impossibleFor editor progress }
 {
@@ -166,8 +155,8 @@ fn impossible(progress: Progress) -> bool
     }
     let header = progress.header;
     match judge(header, progress.hold_len) {
-        Verdict::Refuse(_) => true,
-        Verdict::Gather(h) => h.length as usize <= progress.payload_len,
+        Err(_) => true,
+        Ok(h) => h.length as usize <= progress.payload_len,
     }
 }
 
@@ -208,6 +197,7 @@ pub fn entry_of(table: &[u8; 256], kind: u8) -> u8
 }
 
 // The header that is held, with the bytes that it lacks from the piece, and zeros after them.
+#[tactic(auto, using(crate::proofs::ReceiverSteps::header_filled, crate::proofs::ReceiverSteps::header_kept))]
 fn fill_header(held: [u8; 9], at: usize, piece: &[u8]) -> [u8; 9]
     requires { at ≤ 9 }
     ensures { result ≡ pad 9 (take at held ++ take (9 - at) piece.now) }
@@ -216,7 +206,7 @@ fn fill_header(held: [u8; 9], at: usize, piece: &[u8]) -> [u8; 9]
         return held;
     }
     let mut header = held;
-    clear_bytes(&mut header, at);
+    fill_from(&mut header, at, 0);
     copy_bytes(piece, 0, Frame::HEADER_LEN - at, &mut header, at);
     header
 }
@@ -237,7 +227,7 @@ fn hand_out(
 {
     let entry = entry_of(table, header.kind);
     let answer = decode(entry, &hold[..header.length as usize], text, rows, nodes);
-    clear_bytes(hold, 0); // no byte of this frame may show in the next
+    fill_from(hold, 0, 0); // no byte of this frame may show in the next
     Stepped {
         progress: advance(progress, [0u8; 9], 0, 0),
         used,
@@ -285,6 +275,7 @@ fn load(
 }
 
 // Nine header bytes are there: the run stops, or the payload is gathered.
+#[tactic(auto, unfolding(crate::specs::Offering::settles), using(crate::proofs::ReceiverSteps::cleared))]
 fn settle(
     table: &[u8; 256],
     progress: Progress,
@@ -300,16 +291,16 @@ fn settle(
     ensures { offer_at table.now result hold.new text.new rows.new nodes.new ≡ settles editor (judging editor progress.hold_len bytes) (world_of (receiver_at table.now progress) hold.old text.old rows.old nodes.old) bytes used (drop used piece.now) }
 {
     match judge(bytes, progress.hold_len) {
-        Verdict::Refuse(e) => {
-            let stop = code_of(e);
-            clear_bytes(hold, 0);
+        Err(e) => {
+            let stop = Code::from(e);
+            fill_from(hold, 0, 0);
             Stepped {
                 progress: halt(progress, bytes, stop),
                 used,
                 outcome: Outcome::Stopped(stop),
             }
         }
-        Verdict::Gather(header) => load(
+        Ok(header) => load(
             table, progress, bytes, header, used, piece, hold, text, rows, nodes,
         ),
     }
@@ -326,6 +317,7 @@ fn decline(progress: Progress, why: Code) -> Stepped
 }
 
 // An offer of a piece to a receiver whose kind table is lent: only the rest of the receiver is carried in and out.
+#[tactic(auto, unfolding(crate::specs::Offering::offering))]
 pub fn step(
     table: &[u8; 256],
     progress: Progress,
@@ -338,7 +330,7 @@ pub fn step(
     ensures { offer_at table.now result hold.new text.new rows.new nodes.new ≡ offering editor (world_of (receiver_at table.now progress) hold.old text.old rows.old nodes.old) piece.now }
 {
     if hold.len() != progress.hold_len {
-        return decline(progress, code_of(Refusal::BadReceiver));
+        return decline(progress, Code::from(Refusal::BadReceiver));
     }
     if progress.stop != 0 {
         return decline(
@@ -351,7 +343,7 @@ pub fn step(
         );
     }
     if impossible(progress) {
-        return decline(progress, code_of(Refusal::BadReceiver));
+        return decline(progress, Code::from(Refusal::BadReceiver));
     }
     let held = progress.header;
     let lacking = Frame::HEADER_LEN - progress.header_len;

@@ -6,13 +6,13 @@ use Prim.Native.Nat.{ℕ}
 use Rattle.protocol.specs.Codes.{op_of}
 use Rattle.protocol.specs.Decoding.{decode_message}
 use Rattle.protocol.specs.Encoding.{encode_message}
-use Rattle.protocol.specs.declared.message.Answer.TheVariants.{Accepted}
 use Rattle.protocol.specs.declared.message.ControlOp.{ControlOp}
 use Rattle.protocol.specs.declared.message.ControlOp.TheVariants.{Create, Finish, Remove}
 use Rattle.protocol.specs.declared.message.Message.{Message}
 use Rattle.gateway.specs.Numbers.{six, number_of, fields_of, at, op_in, reply_from, message_from, fits}
 use Rattle.gateway.specs.Entries.{named_entry, decode_call, encode_numbers, sent_left, encode_call}
 use Rattle.gateway.proofs.NumberLaws.{message_back, message_found}
+use Rattle.std.specs.Prelude.{Ok}
 
 -- the message that an answer's numbers mean
 abbrev told_message : List ℕ → Message
@@ -31,7 +31,7 @@ only_six : (n : ℕ) (f : List ℕ) → message_from n (first_six f) ≡ message
 unfolding message_from
 only_six n f = rw (reply_six (op_in (op_of (at f 0))) f)
 
-pub decode_told : (entry : ℕ) (s tx rs nd : List ℕ) (m : Message) → (decode_message 67108864 64 (named_entry entry) s tx rs nd).answer ≡ Accepted m
+pub decode_told : (entry : ℕ) (s tx rs nd : List ℕ) (m : Message) → (decode_message 67108864 64 (named_entry entry) s tx rs nd).answer ≡ Ok m
     → told_message (decode_call entry s tx rs nd).answer ≡ m
 unfolding decode_call
 decode_told entry s tx rs nd m h = rw h (only_six (number_of m) (fields_of m) ∙ message_back m)

@@ -2,12 +2,11 @@
 use mathlib.Core.Bool.{true, false}
 use mathlib.Core.Path.{◌≡◌, refl}
 use Rattle.protocol.specs.declared.message.ControlReply.TheVariants.{Created, Finished, Removed}
-use Rattle.protocol.specs.declared.message.Digest.TheVariants.{Absent, Present}
 use Rattle.protocol.specs.declared.message.Message.{Message}
 use Rattle.protocol.specs.declared.message.Message.TheVariants as Msg
 use Rattle.protocol_laws.proofs.CodeRounds.{mode_known, error_known, op_known}
 use Rattle.gateway.specs.Numbers.{number_of, fields_of, message_from, is_message, message_of, fits}
-use Rattle.gateway.specs.declared.numbers.MaybeMessage.TheVariants.{Known}
+use Rattle.std.specs.Prelude.{Some, None}
 
 -- every message is the one that its numbers mean, an opaque one too
 pub message_back : (m : Message) → message_from (number_of m) (fields_of m) ≡ m
@@ -26,8 +25,8 @@ message_back (Msg.Reply (Finished fingerprint facts bytes false)) = refl
 message_back (Msg.Reply Removed) = refl
 message_back (Msg.Profile steps) = refl
 message_back (Msg.Page limit cursor query) = refl
-message_back (Msg.Fetch Absent count) = refl
-message_back (Msg.Fetch (Present digest) count) = refl
+message_back (Msg.Fetch None count) = refl
+message_back (Msg.Fetch (Some digest) count) = refl
 message_back (Msg.ListingDigest predicate digest) = refl
 message_back (Msg.Opaque payload) = refl
 
@@ -48,11 +47,11 @@ numbers_fit (Msg.Reply (Finished fingerprint facts bytes false)) h = refl
 numbers_fit (Msg.Reply Removed) h = refl
 numbers_fit (Msg.Profile steps) h = refl
 numbers_fit (Msg.Page limit cursor query) h = refl
-numbers_fit (Msg.Fetch Absent count) h = refl
-numbers_fit (Msg.Fetch (Present digest) count) h = refl
+numbers_fit (Msg.Fetch None count) h = refl
+numbers_fit (Msg.Fetch (Some digest) count) h = refl
 numbers_fit (Msg.ListingDigest predicate digest) h = h
 numbers_fit (Msg.Opaque payload) h = h
 
-pub message_found : (m : Message) → fits m ≡ true → message_of (number_of m) (fields_of m) ≡ Known m
+pub message_found : (m : Message) → fits m ≡ true → message_of (number_of m) (fields_of m) ≡ Some m
 unfolding message_of
 message_found m h = rw (numbers_fit m h, message_back m)

@@ -7,10 +7,12 @@ use lib.Dec.{leb, eqb}
 use borrow.Author.Tests.{eqb-true, eqb-false, leb-true}
 use Rattle.varint.proofs.Basics.{pick_cases, both}
 use Rattle.protocol.specs.Codes.{mode_of, error_of, op_of}
-use Rattle.protocol.specs.declared.message.MaybeMode.{MaybeMode}
-use Rattle.protocol.specs.declared.message.MaybeErrorCode.{MaybeErrorCode}
-use Rattle.protocol.specs.declared.message.MaybeControlOp.{MaybeControlOp}
 use Rattle.gateway.specs.Numbers.{is_mode, is_error, is_op}
+use Rattle.protocol.specs.declared.message.Mode.{Mode}
+use Rattle.protocol.specs.declared.message.ErrorCode.{ErrorCode}
+use Rattle.protocol.specs.declared.message.ControlOp.{ControlOp}
+use Rattle.std.specs.Prelude.{Result}
+use Rattle.varint.specs.declared.error.Refusal.{Refusal}
 
 abbrev within : ℕ → ℕ → Bool
 within high n = leb 1 n && leb n high
@@ -33,7 +35,7 @@ mode_range n =
     (λ a. pick_cases P (eqb n 1) (found (λ k. leb k 1) n 1 refl)
     (λ b. none (leb n 1) (λ t. omega (arith, eqb-false n 0 a, eqb-false n 1 b, leb-true n 1 t))))
   where
-    P : MaybeMode → Type 0
+    P : Result Mode Refusal → Type 0
     P x = is_mode x ≡ leb n 1
 
 pub op_range : (n : ℕ) → is_op (op_of n) ≡ within 3 n
@@ -43,7 +45,7 @@ op_range n =
     (λ b. pick_cases P (eqb n 3) (found (within 3) n 3 refl)
     (λ c. outside 3 n (λ l h. omega (arith, eqb-false n 1 a, eqb-false n 2 b, eqb-false n 3 c)))))
   where
-    P : MaybeControlOp → Type 0
+    P : Result ControlOp Refusal → Type 0
     P x = is_op x ≡ within 3 n
 
 pub error_range : (n : ℕ) → is_error (error_of n) ≡ within 11 n
@@ -63,5 +65,5 @@ error_range n =
     let o : 6 ≤ n = omega (arith, eqb-false n 1 a, eqb-false n 2 b, eqb-false n 3 c, eqb-false n 4 d, eqb-false n 5 e) in
     omega (arith, eqb-false n 6 f, eqb-false n 7 g, eqb-false n 8 i, eqb-false n 9 j, eqb-false n 10 k, eqb-false n 11 m)))))))))))))
   where
-    P : MaybeErrorCode → Type 0
+    P : Result ErrorCode Refusal → Type 0
     P x = is_error x ≡ within 11 n

@@ -1,5 +1,5 @@
 -- What each entry point answers and leaves, by the definition of the layer below: the result, the answer's sixteen numbers, and every lent buffer.
-use Rattle.std.specs.Prelude.{Bool, false, ◌≡◌, refl, List, [], ◌∷◌, ℕ, ◌*◌, ltb, leb, eqb, length}
+use Rattle.std.specs.Prelude.{Bool, false, ◌≡◌, refl, List, [], ◌∷◌, ℕ, ◌*◌, ltb, leb, eqb, length, Err, Some, None, Option}
 use Rattle.varint.specs.Choice.{pick}
 use Rattle.varint.specs.Formats.{print_all}
 use Rattle.varint.specs.Leb128.{read_from, get_u64, put_by, put_u64}
@@ -7,7 +7,6 @@ use Rattle.varint.specs.Outs.{Sent, wrote, send}
 use Rattle.varint.specs.Stores.{part, filled}
 use Rattle.varint.specs.Texts.{skim_text, get_text, get_name}
 use Rattle.varint.specs.Utf8.{utf8, scan, lead}
-use Rattle.varint.specs.declared.Written.TheVariants.{Refused}
 use Rattle.varint.specs.declared.error.Fault.{Fault}
 use Rattle.varint.specs.declared.error.Fault.TheVariants.{RowCount, Number}
 use Rattle.varint.specs.declared.error.Refusal.TheVariants.{BadMessage}
@@ -23,10 +22,9 @@ use Rattle.protocol.specs.RowsHeld.{held_times}
 use Rattle.protocol.specs.Said.{read_entry, read_message, print_said, lay}
 use Rattle.protocol.specs.Startup.{claim_width}
 use Rattle.gateway.specs.Numbers.{at, message_from, is_message, message_of}
-use Rattle.gateway.specs.Answers.{numbers_of, of_message, of_desc, of_written, of_number}
+use Rattle.gateway.specs.Answers.{numbers_of, of_message, of_used, of_number}
 use Rattle.gateway.specs.declared.answers.Parts.{Parts}
-use Rattle.gateway.specs.declared.numbers.MaybeMessage.{MaybeMessage}
-use Rattle.gateway.specs.declared.numbers.MaybeMessage.TheVariants.{Known, Unknown}
+use Rattle.protocol.specs.declared.message.Message.{Message}
 
 -- a call that is lent nothing else to write
 pub record Told : Type 0 where
@@ -72,7 +70,7 @@ decode_call entry s tx rs nd = message_left (named_entry entry) (decode_message 
 -- fjord_decode_desc: "Read alone, a descriptor is a message without rows"
 
 abbrev pub desc_left : DescDecoding.DecodedDesc → Decoded
-desc_left l = decoded (of_desc l.answer) l.text l.rows l.nodes
+desc_left l = decoded (of_used l.answer) l.text l.rows l.nodes
 
 unfoldable pub decode_desc_call : List ℕ → List ℕ → List ℕ → List ℕ → Decoded
 decode_desc_call s tx rs nd = desc_left (decode_desc 67108864 64 s tx rs nd)
@@ -90,15 +88,15 @@ abbrev pub fault_of : ℕ → List ℕ → List ℕ → Fault
 fault_of n f rs = pick (few_rows n f rs) RowCount Number
 
 -- "Refused: nothing written."
-abbrev pub encode_found : MaybeMessage → Fault → List ℕ → List ℕ → List ℕ → List ℕ → Sent
-encode_found (Known message) fault tx rs nd d = encode_message 67108864 64 message tx rs nd d
-encode_found Unknown fault tx rs nd d = record { answer = Refused (BadMessage fault); out = d }
+abbrev pub encode_found : Option Message → Fault → List ℕ → List ℕ → List ℕ → List ℕ → Sent
+encode_found (Some message) fault tx rs nd d = encode_message 67108864 64 message tx rs nd d
+encode_found None fault tx rs nd d = record { answer = Err (BadMessage fault); out = d }
 
 unfoldable pub encode_numbers : ℕ → List ℕ → List ℕ → List ℕ → List ℕ → List ℕ → Sent
 encode_numbers n f tx rs nd d = encode_found (message_of n f) (fault_of n f rs) tx rs nd d
 
 abbrev pub sent_left : Sent → Encoded
-sent_left s = encoded (of_written s.answer) s.out
+sent_left s = encoded (of_used s.answer) s.out
 
 unfoldable pub encode_call : ℕ → List ℕ → List ℕ → List ℕ → List ℕ → List ℕ → Encoded
 encode_call n f tx rs nd d = sent_left (encode_numbers n f tx rs nd d)
@@ -116,7 +114,7 @@ get_call s = told (of_number (get_u64 s 0))
 -- fjord_put_u64: "A varint written alone follows 16(5) too."
 
 unfoldable pub put_call : ℕ → List ℕ → Encoded
-put_call value d = encoded (of_written (wrote d (put_u64 value))) (filled d (put_u64 value))
+put_call value d = encoded (of_used (wrote d (put_u64 value))) (filled d (put_u64 value))
 
 -- control `02 01 61 07 00`: number 7, op 2, database 0, 1, flag 1, schema 1, 0
 example_control : decode_call 7 (0x02 ∷ 0x01 ∷ 0x61 ∷ 0x07 ∷ 0x00 ∷ []) (9 ∷ 9 ∷ []) (9 ∷ []) []
@@ -137,11 +135,11 @@ unfolding decode_call decode_message settled fitted filled read_message read_ent
 example_opaque = refl
 
 -- startup of mode 2, with a database past the text's end, one claim, and two numbers of rows: 19(2); with three 19(4)
-example_few : encode_numbers 1 (4 ∷ 5 ∷ 1 ∷ 2 ∷ 0 ∷ 1 ∷ []) [] (0 ∷ 0 ∷ []) [] (9 ∷ []) ≡ record { answer = Refused (BadMessage RowCount); out = 9 ∷ [] }
+example_few : encode_numbers 1 (4 ∷ 5 ∷ 1 ∷ 2 ∷ 0 ∷ 1 ∷ []) [] (0 ∷ 0 ∷ []) [] (9 ∷ []) ≡ record { answer = Err (BadMessage RowCount); out = 9 ∷ [] }
 unfolding encode_numbers message_of is_message
 example_few = refl
 
-example_mode : encode_numbers 1 (4 ∷ 5 ∷ 1 ∷ 2 ∷ 0 ∷ 1 ∷ []) [] (0 ∷ 0 ∷ 0 ∷ []) [] (9 ∷ []) ≡ record { answer = Refused (BadMessage Number); out = 9 ∷ [] }
+example_mode : encode_numbers 1 (4 ∷ 5 ∷ 1 ∷ 2 ∷ 0 ∷ 1 ∷ []) [] (0 ∷ 0 ∷ 0 ∷ []) [] (9 ∷ []) ≡ record { answer = Err (BadMessage Number); out = 9 ∷ [] }
 unfolding encode_numbers message_of is_message
 example_mode = refl
 

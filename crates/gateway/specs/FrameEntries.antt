@@ -1,26 +1,20 @@
 -- What the entry points of frames, the slot and the receiver answer and leave, by the definitions of the layer of frames.
-use Rattle.std.specs.Prelude.{◌≡◌, refl, List, [], ◌∷◌, ℕ, get_or}
+use Rattle.std.specs.Prelude.{◌≡◌, refl, List, [], ◌∷◌, ℕ, get_or, Result, Ok, Err}
 use Rattle.varint.specs.Stores.{part}
 use Rattle.varint.specs.Fixed.{le}
 use Rattle.frame.specs.Frames.{decode_header, decode_frame, framed, encode_frame, kind_of, stream_of, length_of}
 use Rattle.frame.specs.Offering.{Opens, opens, Offer, offering, world_of}
 use Rattle.frame.specs.Slots.{Slot, put_slot, slot_of}
 use Rattle.frame.specs.Worlds.{editor}
-use Rattle.frame.specs.declared.FrameAnswer.{FrameAnswer}
-use Rattle.frame.specs.declared.FrameAnswer.TheVariants as F
 use Rattle.frame.specs.declared.FrameHeader.{FrameHeader}
-use Rattle.frame.specs.declared.HeaderAnswer.{HeaderAnswer}
-use Rattle.frame.specs.declared.HeaderAnswer.TheVariants as H
-use Rattle.frame.specs.declared.receiver.Opening.{Opening}
-use Rattle.frame.specs.declared.receiver.Opening.TheVariants as O
 use Rattle.frame.specs.declared.receiver.Outcome.{Outcome}
 use Rattle.frame.specs.declared.receiver.Outcome.TheVariants.{More, Handed, Stopped, Refused}
 use Rattle.frame.specs.declared.receiver.Receiver.{Receiver}
-use Rattle.frame.specs.declared.slot.SlotAnswer.{SlotAnswer}
-use Rattle.frame.specs.declared.slot.SlotAnswer.TheVariants as S
-use Rattle.gateway.specs.Answers.{numbers_of, no_fields, given, accepted, refused, of_message}
+use Rattle.gateway.specs.Answers.{numbers_of, no_fields, given, accepted, refused, of_message, of_done}
 use Rattle.gateway.specs.Entries.{Told, Encoded, told, encoded, sent_left, named_entry}
 use Rattle.gateway.specs.declared.answers.Parts.{Parts}
+use Rattle.varint.specs.declared.error.Refusal.{Refusal}
+use Rattle.frame.specs.declared.Frame.{Frame}
 
 -- a frame's header beside what else is told
 abbrev pub headed : FrameHeader → (used : ℕ) → Parts → Parts
@@ -41,13 +35,13 @@ encode_frame_call kind stream payload d = sent_left (encode_frame 67108864 kind 
 
 -- fjord_decode_header, fjord_decode_frame
 
-abbrev pub of_header : HeaderAnswer → Parts
-of_header (H.Header h) = headed h 0 (accepted 0 0 no_fields)
-of_header (H.Refused e) = refused 0 e
+abbrev pub of_header : Result FrameHeader Refusal → Parts
+of_header (Ok h) = headed h 0 (accepted 0 0 no_fields)
+of_header (Err e) = refused 0 e
 
-abbrev pub of_frame : FrameAnswer → Parts
-of_frame (F.Whole f) = headed f.header f.used (accepted 0 0 no_fields)
-of_frame (F.Refused e) = refused 0 e
+abbrev pub of_frame : Result Frame Refusal → Parts
+of_frame (Ok f) = headed f.header f.used (accepted 0 0 no_fields)
+of_frame (Err e) = refused 0 e
 
 unfoldable pub header_call : List ℕ → Told
 header_call s = told (of_header (decode_header 67108864 s))
@@ -57,12 +51,8 @@ frame_call s = told (of_frame (decode_frame 67108864 s))
 
 -- fjord_put_slot
 
-abbrev pub of_slot : SlotAnswer → Parts
-of_slot S.Shown = accepted 0 0 no_fields
-of_slot (S.Refused e) = refused 0 e
-
 abbrev pub slot_left : Slot → Encoded
-slot_left s = encoded (of_slot s.answer) s.slot
+slot_left s = encoded (of_done s.answer) s.slot
 
 unfoldable pub slot_call : (text : List ℕ) → (start len : ℕ) → (slot : List ℕ) → Encoded
 slot_call text start len slot = slot_left (put_slot text start len slot)
@@ -75,12 +65,8 @@ pub record OpenLeft : Type 0 where
   pub receiver : Receiver
   pub hold : List ℕ
 
-abbrev pub of_opening : Opening → Parts
-of_opening O.Accepted = accepted 0 0 no_fields
-of_opening (O.Refused e) = refused 0 e
-
 abbrev pub open_left : Opens → OpenLeft
-open_left o = record { result = (of_opening o.opening).refusal.number; answer = numbers_of (of_opening o.opening); receiver = o.receiver; hold = o.hold }
+open_left o = record { result = (of_done o.opening).refusal.number; answer = numbers_of (of_done o.opening); receiver = o.receiver; hold = o.hold }
 
 unfoldable pub open_call : Receiver → (table hold : List ℕ) → OpenLeft
 open_call r table hold = open_left (opens r table hold)

@@ -1,30 +1,21 @@
 -- A message as numbers: which of the twelve it is, and six fields. "Where an answer is an enum, a definition gives this paper's number and values for
 -- each of its cases."
-use Rattle.std.specs.Prelude.{Bool, true, false, ◌&&◌, ◌≡◌, refl, List, [], ◌∷◌, ℕ, ◌+◌, leb, eqb, get_or}
+use Rattle.std.specs.Prelude.{Bool, true, false, ◌&&◌, ◌≡◌, refl, List, [], ◌∷◌, ℕ, ◌+◌, leb, eqb, get_or, Result, Ok, Err, Some, None, Option}
 use Rattle.varint.specs.Choice.{pick}
 use Rattle.protocol.specs.Codes.{mode_byte, mode_of, error_byte, error_of, op_byte, op_of}
 use Rattle.protocol.specs.Fields.{bit, yes, narrow}
 use Rattle.protocol.specs.declared.message.Mode.{Mode}
 use Rattle.protocol.specs.declared.message.Mode.TheVariants.{ReadOnly, ReadWrite}
-use Rattle.protocol.specs.declared.message.MaybeMode.{MaybeMode}
-use Rattle.protocol.specs.declared.message.MaybeMode.TheVariants as MM
 use Rattle.protocol.specs.declared.message.ErrorCode.{ErrorCode}
 use Rattle.protocol.specs.declared.message.ErrorCode.TheVariants.{Protocol, Busy}
-use Rattle.protocol.specs.declared.message.MaybeErrorCode.{MaybeErrorCode}
-use Rattle.protocol.specs.declared.message.MaybeErrorCode.TheVariants as ME
 use Rattle.protocol.specs.declared.message.ControlOp.{ControlOp}
 use Rattle.protocol.specs.declared.message.ControlOp.TheVariants.{Create, Finish, Remove}
-use Rattle.protocol.specs.declared.message.MaybeControlOp.{MaybeControlOp}
-use Rattle.protocol.specs.declared.message.MaybeControlOp.TheVariants as MC
 use Rattle.protocol.specs.declared.message.ControlReply.{ControlReply}
 use Rattle.protocol.specs.declared.message.ControlReply.TheVariants.{Created, Finished, Removed}
-use Rattle.protocol.specs.declared.message.Digest.{Digest}
-use Rattle.protocol.specs.declared.message.Digest.TheVariants.{Absent, Present}
 use Rattle.protocol.specs.declared.message.Message.{Message}
 use Rattle.protocol.specs.declared.message.Message.TheVariants as Msg
 use Rattle.protocol.specs.declared.message.Span.{Span}
-use Rattle.gateway.specs.declared.numbers.MaybeMessage.{MaybeMessage}
-use Rattle.gateway.specs.declared.numbers.MaybeMessage.TheVariants.{Known, Unknown}
+use Rattle.varint.specs.declared.error.Refusal.{Refusal}
 
 abbrev pub six : ℕ → ℕ → ℕ → ℕ → ℕ → ℕ → List ℕ
 six a b c d e f = a ∷ b ∷ c ∷ d ∷ e ∷ f ∷ []
@@ -53,9 +44,9 @@ reply_fields (Finished fingerprint facts bytes complete) = six (op_byte Finish) 
 reply_fields Removed = six (op_byte Remove) 0 0 0 0 0
 
 -- "flag, digest if 1, count": a fetch without a digest has 0 for it
-abbrev pub fetch_fields : Digest → ℕ → List ℕ
-fetch_fields Absent count = six 0 0 count 0 0 0
-fetch_fields (Present digest) count = six 1 digest count 0 0 0
+abbrev pub fetch_fields : Option ℕ → ℕ → List ℕ
+fetch_fields None count = six 0 0 count 0 0 0
+fetch_fields (Some digest) count = six 1 digest count 0 0 0
 
 -- A message's fields in reading order, then zeros. "A text is a start and a length in text"; what has a byte is that byte; a flag is 0 or 1.
 abbrev pub fields_of : Message → List ℕ
@@ -81,25 +72,25 @@ at f k = get_or f k 0
 abbrev pub span_at : List ℕ → ℕ → Span
 span_at f k = record { start = at f k; len = at f (k + 1) }
 
-abbrev pub mode_in : MaybeMode → Mode
-mode_in (MM.Known mode) = mode
-mode_in MM.Unknown = ReadOnly
+abbrev pub mode_in : Result Mode Refusal → Mode
+mode_in (Ok mode) = mode
+mode_in (Err e) = ReadOnly
 
-abbrev pub error_in : MaybeErrorCode → ErrorCode
-error_in (ME.Known code) = code
-error_in ME.Unknown = Protocol
+abbrev pub error_in : Result ErrorCode Refusal → ErrorCode
+error_in (Ok code) = code
+error_in (Err e) = Protocol
 
-abbrev pub op_in : MaybeControlOp → ControlOp
-op_in (MC.Known op) = op
-op_in MC.Unknown = Create
+abbrev pub op_in : Result ControlOp Refusal → ControlOp
+op_in (Ok op) = op
+op_in (Err e) = Create
 
 abbrev pub reply_from : ControlOp → List ℕ → ControlReply
 reply_from Create f = Created (span_at f 1)
 reply_from Finish f = Finished (at f 1) (at f 2) (at f 3) (yes (at f 4))
 reply_from Remove f = Removed
 
-abbrev pub digest_from : ℕ → ℕ → Digest
-digest_from flag digest = pick (eqb flag 0) Absent (Present digest)
+abbrev pub digest_from : ℕ → ℕ → Option ℕ
+digest_from flag digest = pick (eqb flag 0) None (Some digest)
 
 unfoldable pub message_from : ℕ → List ℕ → Message
 message_from n f =
@@ -120,17 +111,17 @@ message_from n f =
 -- The tests: are the numbers those of a message of the twelve? (point 23 of docs/DECISIONS.md). A mode, a code or an op has a byte, a flag is 0 or 1, a
 -- version and a listing's predicate have 32 bits. Fields past the message's own may be any, and so may the digest of a fetch whose flag is 0.
 
-abbrev pub is_mode : MaybeMode → Bool
-is_mode (MM.Known mode) = true
-is_mode MM.Unknown = false
+abbrev pub is_mode : Result Mode Refusal → Bool
+is_mode (Ok mode) = true
+is_mode (Err e) = false
 
-abbrev pub is_error : MaybeErrorCode → Bool
-is_error (ME.Known code) = true
-is_error ME.Unknown = false
+abbrev pub is_error : Result ErrorCode Refusal → Bool
+is_error (Ok code) = true
+is_error (Err e) = false
 
-abbrev pub is_op : MaybeControlOp → Bool
-is_op (MC.Known op) = true
-is_op MC.Unknown = false
+abbrev pub is_op : Result ControlOp Refusal → Bool
+is_op (Ok op) = true
+is_op (Err e) = false
 
 abbrev pub is_flag : ℕ → Bool
 is_flag n = leb n 1
@@ -157,8 +148,8 @@ is_message n f =
     (pick (eqb n 12) (narrow (at f 0))
     false)))))))))))
 
-unfoldable pub message_of : ℕ → List ℕ → MaybeMessage
-message_of n f = pick (is_message n f) (Known (message_from n f)) Unknown
+unfoldable pub message_of : ℕ → List ℕ → Option Message
+message_of n f = pick (is_message n f) (Some (message_from n f)) None
 
 -- what the types of a message's fields say of its numbers, where 64 bits could say more; an opaque payload is none of the twelve
 abbrev pub fits : Message → Bool
@@ -180,31 +171,31 @@ example_startup : fields_of (Msg.Startup 4 (record { start = 0; len = 3 }) ReadW
 example_startup = refl
 
 -- of the fields of a fetch without a digest only the first and the third are read
-example_fetch : message_of 11 (0 ∷ 8 ∷ 2 ∷ 9 ∷ 9 ∷ 9 ∷ []) ≡ Known (Msg.Fetch Absent 2)
+example_fetch : message_of 11 (0 ∷ 8 ∷ 2 ∷ 9 ∷ 9 ∷ 9 ∷ []) ≡ Some (Msg.Fetch None 2)
 unfolding message_of message_from is_message
 example_fetch = refl
 
-example_busy : message_of 3 (11 ∷ 5 ∷ 6 ∷ 0 ∷ 0 ∷ 0 ∷ []) ≡ Known (Msg.Error Busy (record { start = 5; len = 6 }))
+example_busy : message_of 3 (11 ∷ 5 ∷ 6 ∷ 0 ∷ 0 ∷ 0 ∷ []) ≡ Some (Msg.Error Busy (record { start = 5; len = 6 }))
 unfolding message_of message_from is_message
 example_busy = refl
 
-example_code : message_of 3 (12 ∷ 5 ∷ 6 ∷ 0 ∷ 0 ∷ 0 ∷ []) ≡ Unknown
+example_code : message_of 3 (12 ∷ 5 ∷ 6 ∷ 0 ∷ 0 ∷ 0 ∷ []) ≡ None
 unfolding message_of message_from is_message
 example_code = refl
 
-example_version : message_of 2 (4294967296 ∷ 0 ∷ 0 ∷ 0 ∷ 0 ∷ 0 ∷ []) ≡ Unknown
+example_version : message_of 2 (4294967296 ∷ 0 ∷ 0 ∷ 0 ∷ 0 ∷ 0 ∷ []) ≡ None
 unfolding message_of message_from is_message
 example_version = refl
 
 -- removed has no flag, finished has
-example_removed : message_of 8 (3 ∷ 0 ∷ 0 ∷ 0 ∷ 2 ∷ 0 ∷ []) ≡ Known (Msg.Reply Removed)
+example_removed : message_of 8 (3 ∷ 0 ∷ 0 ∷ 0 ∷ 2 ∷ 0 ∷ []) ≡ Some (Msg.Reply Removed)
 unfolding message_of message_from is_message
 example_removed = refl
 
-example_finished : message_of 8 (2 ∷ 0 ∷ 0 ∷ 0 ∷ 2 ∷ 0 ∷ []) ≡ Unknown
+example_finished : message_of 8 (2 ∷ 0 ∷ 0 ∷ 0 ∷ 2 ∷ 0 ∷ []) ≡ None
 unfolding message_of message_from is_message
 example_finished = refl
 
-example_thirteen : message_of 13 (0 ∷ 0 ∷ 0 ∷ 0 ∷ 0 ∷ 0 ∷ []) ≡ Unknown
+example_thirteen : message_of 13 (0 ∷ 0 ∷ 0 ∷ 0 ∷ 0 ∷ 0 ∷ []) ≡ None
 unfolding message_of message_from is_message
 example_thirteen = refl

@@ -2,13 +2,12 @@
 ghost use Rattle.std.specs.Prelude.{◌≡◌};
 ghost use Rattle.std.proofs.Math.ListN;
 ghost use Rattle.gateway.specs.Numbers.{six};
-ghost use Rattle.gateway.specs.Answers.{numbers_of, given, accepted, refused, of_message, of_desc, of_written, of_number};
+ghost use Rattle.gateway.specs.Answers.{numbers_of, given, accepted, refused, of_message, of_used, of_done, of_number};
 
 use crate::numbers::{fields_of, number_of};
-use desc::DescAnswer;
-use protocol::message::Answer;
-use varint::error::{Code, Refusal, code_of};
-use varint::{ReadU64, Written};
+use protocol::message::Message;
+use varint::Got;
+use varint::error::{Code, Refusal};
 
 // The parts of an answer; what a call does not give is 0.
 #[derive(Clone, Copy)]
@@ -54,43 +53,45 @@ pub(crate) fn accepted(used: u64, message: u64, fields: [u64; 6]) -> Parts
 pub(crate) fn refused(message: u64, e: Refusal) -> Parts
     ensures { result ≡ refused message e }
 {
-    given(code_of(e), 0, message, [0; 6])
+    given(Code::from(e), 0, message, [0; 6])
 }
 
 // A message, or why it was refused: then `asked` is the number of the one that was asked for.
-pub(crate) fn of_message(asked: u64, a: Answer) -> Parts
+pub(crate) fn of_message(asked: u64, a: Result<Message, Refusal>) -> Parts
     ensures { result ≡ of_message asked a }
 {
     match a {
-        Answer::Accepted(message) => accepted(0, number_of(message), fields_of(message)),
-        Answer::Refused(e) => refused(asked, e),
+        Ok(message) => accepted(0, number_of(message), fields_of(message)),
+        Err(e) => refused(asked, e),
     }
 }
 
-pub(crate) fn of_desc(a: DescAnswer) -> Parts
-    ensures { result ≡ of_desc a }
+// How many bytes were used or written.
+pub(crate) fn of_used(a: Result<usize, Refusal>) -> Parts
+    ensures { result ≡ of_used a }
 {
     match a {
-        DescAnswer::Accepted { used } => accepted(used as u64, 0, [0; 6]),
-        DescAnswer::Refused(e) => refused(0, e),
+        Ok(used) => accepted(used as u64, 0, [0; 6]),
+        Err(e) => refused(0, e),
     }
 }
 
-pub(crate) fn of_written(w: Written) -> Parts
-    ensures { result ≡ of_written w }
+// Done, or why not.
+pub(crate) fn of_done(a: Result<(), Refusal>) -> Parts
+    ensures { result ≡ of_done a }
 {
-    match w {
-        Written::Wrote { len } => accepted(len as u64, 0, [0; 6]),
-        Written::Refused(e) => refused(0, e),
+    match a {
+        Ok(()) => accepted(0, 0, [0; 6]),
+        Err(e) => refused(0, e),
     }
 }
 
-pub(crate) fn of_number(a: ReadU64) -> Parts
+pub(crate) fn of_number(a: Got<u64>) -> Parts
     ensures { result ≡ of_number a }
 {
     match a {
-        ReadU64::Value { value, next } => accepted(next as u64, 0, [value, 0, 0, 0, 0, 0]),
-        ReadU64::Refused(e) => refused(0, e),
+        Ok((value, next)) => accepted(next as u64, 0, [value, 0, 0, 0, 0, 0]),
+        Err(e) => refused(0, e),
     }
 }
 
@@ -146,11 +147,11 @@ pub(crate) fn tell(p: Parts, answer: &mut [u64; 16]) -> u64
 }
 
 // Writes what is told of a message, as `tell` of `of_message`, with no parts built on the way.
-pub(crate) fn tell_message(asked: u64, a: Answer, answer: &mut [u64; 16]) -> u64
+pub(crate) fn tell_message(asked: u64, a: Result<Message, Refusal>, answer: &mut [u64; 16]) -> u64
     ensures { (result ≡ (of_message asked a).refusal.number) × (answer.new ≡ numbers_of (of_message asked a)) }
 {
     match a {
-        Answer::Accepted(message) => {
+        Ok(message) => {
             let number = number_of(message);
             let f = fields_of(message);
             let none = Code {
@@ -162,8 +163,8 @@ pub(crate) fn tell_message(asked: u64, a: Answer, answer: &mut [u64; 16]) -> u64
                 none, 0, 0, 0, 0, number, f[0], f[1], f[2], f[3], f[4], f[5], answer,
             )
         }
-        Answer::Refused(e) => {
-            let refusal = code_of(e);
+        Err(e) => {
+            let refusal = Code::from(e);
             write_answer(refusal, 0, 0, 0, 0, asked, 0, 0, 0, 0, 0, 0, answer)
         }
     }

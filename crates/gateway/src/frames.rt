@@ -1,10 +1,11 @@
 // The entry points of frames and the display slot.
 ghost use Rattle.std.specs.Prelude.{◌≡◌};
-ghost use Rattle.gateway.specs.FrameEntries.{headed, of_header, of_frame, of_slot, encode_frame_call, header_call, frame_call, slot_call};
+ghost use Rattle.gateway.specs.FrameEntries.{headed, of_header, of_frame, encode_frame_call, header_call, frame_call, slot_call};
 
-use crate::answers::{Parts, accepted, of_written, refused, tell};
-use frame::slot::{SlotAnswer, put_slot};
-use frame::{FrameAnswer, FrameHeader, HeaderAnswer, decode_frame, decode_header, encode_frame};
+use crate::answers::{Parts, accepted, of_done, of_used, refused, tell};
+use frame::slot::put_slot;
+use frame::{Frame, FrameHeader, decode_frame, decode_header, encode_frame};
+use varint::error::Refusal;
 
 // A frame's header beside what else is told.
 pub(crate) fn with_header(h: FrameHeader, used: u64, p: Parts) -> Parts
@@ -23,30 +24,21 @@ pub(crate) fn with_header(h: FrameHeader, used: u64, p: Parts) -> Parts
     }
 }
 
-fn of_header(a: HeaderAnswer) -> Parts
+fn of_header(a: Result<FrameHeader, Refusal>) -> Parts
     ensures { result ≡ of_header a }
 {
     match a {
-        HeaderAnswer::Header(h) => with_header(h, 0, accepted(0, 0, [0; 6])),
-        HeaderAnswer::Refused(e) => refused(0, e),
+        Ok(h) => with_header(h, 0, accepted(0, 0, [0; 6])),
+        Err(e) => refused(0, e),
     }
 }
 
-fn of_frame(a: FrameAnswer) -> Parts
+fn of_frame(a: Result<Frame, Refusal>) -> Parts
     ensures { result ≡ of_frame a }
 {
     match a {
-        FrameAnswer::Whole(f) => with_header(f.header, f.used as u64, accepted(0, 0, [0; 6])),
-        FrameAnswer::Refused(e) => refused(0, e),
-    }
-}
-
-fn of_slot(a: SlotAnswer) -> Parts
-    ensures { result ≡ of_slot a }
-{
-    match a {
-        SlotAnswer::Shown => accepted(0, 0, [0; 6]),
-        SlotAnswer::Refused(e) => refused(0, e),
+        Ok(f) => with_header(f.header, f.used as u64, accepted(0, 0, [0; 6])),
+        Err(e) => refused(0, e),
     }
 }
 
@@ -60,7 +52,7 @@ pub fn fjord_encode_frame(
     ensures { record { result = result; answer = answer.new; out = out.new } ≡ encode_frame_call kind stream payload.now out.old }
 {
     let written = encode_frame(kind, stream, payload, out);
-    tell(of_written(written), answer)
+    tell(of_used(written), answer)
 }
 
 pub fn fjord_decode_header(bytes: &[u8], answer: &mut [u64; 16]) -> u64
@@ -85,5 +77,5 @@ pub fn fjord_put_slot(
     ensures { record { result = result; answer = answer.new; out = slot.new } ≡ slot_call text.now start length slot.old }
 {
     let shown = put_slot(text, start, length, slot);
-    tell(of_slot(shown), answer)
+    tell(of_done(shown), answer)
 }

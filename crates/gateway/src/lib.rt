@@ -13,11 +13,11 @@ ghost use Rattle.varint.specs.declared.error.Fault.TheVariants.{RowCount, Number
 ghost use Rattle.protocol.specs.Rows.{width_of};
 ghost use Rattle.gateway.specs.Entries.{named_entry, fault_of, encode_numbers, decode_call, decode_desc_call, encode_call, encode_desc_call, get_call, put_call};
 
-use answers::{of_desc, of_number, of_written, tell, tell_message};
+use answers::{of_number, of_used, tell, tell_message};
 use desc::decode_desc;
 use desc::write::encode_desc;
 pub use frames::{fjord_decode_frame, fjord_decode_header, fjord_encode_frame, fjord_put_slot};
-use numbers::{MaybeMessage, message_of};
+use numbers::message_of;
 use protocol::decode;
 use protocol::message::RowKind;
 use protocol_write::checks::few_rows;
@@ -61,7 +61,7 @@ pub fn fjord_decode_desc(
     ensures { record { result = result; answer = answer.new; text = text.new; rows = rows.new; nodes = nodes.new } ≡ decode_desc_call payload.now text.old rows.old nodes.old }
 {
     let read = decode_desc(payload, text, rows, nodes);
-    tell(of_desc(read), answer)
+    tell(of_used(read), answer)
 }
 
 fn fault_in(kind: RowKind, rows: &[u64], count: u64) -> Fault
@@ -95,10 +95,8 @@ fn encode_numbers(
     ensures { record { answer = result; out = out.new } ≡ encode_numbers number f.now text.now rows.now nodes.now out.old }
 {
     match message_of(number, f) {
-        MaybeMessage::Known(message) => encode(message, text, rows, nodes, out),
-        MaybeMessage::Unknown => {
-            Written::Refused(Refusal::BadMessage(fault_of(number, f, rows)))
-        }
+        Some(message) => encode(message, text, rows, nodes, out),
+        None => Err(Refusal::BadMessage(fault_of(number, f, rows))),
     }
 }
 
@@ -114,14 +112,14 @@ pub fn fjord_encode(
     ensures { record { result = result; answer = answer.new; out = out.new } ≡ encode_call number fields.now text.now rows.now nodes.now out.old }
 {
     let written = encode_numbers(number, fields, text, rows, nodes, out);
-    tell(of_written(written), answer)
+    tell(of_used(written), answer)
 }
 
 pub fn fjord_encode_desc(text: &[u8], nodes: &[u64], out: &mut [u8], answer: &mut [u64; 16]) -> u64
     ensures { record { result = result; answer = answer.new; out = out.new } ≡ encode_desc_call text.now nodes.now out.old }
 {
     let written = encode_desc(text, nodes, out);
-    tell(of_written(written), answer)
+    tell(of_used(written), answer)
 }
 
 pub fn fjord_get_u64(bytes: &[u8], answer: &mut [u64; 16]) -> u64
@@ -134,5 +132,5 @@ pub fn fjord_put_u64(value: u64, out: &mut [u8], answer: &mut [u64; 16]) -> u64
     ensures { record { result = result; answer = answer.new; out = out.new } ≡ put_call value out.old }
 {
     let written = encode_u64(out, value);
-    tell(of_written(written), answer)
+    tell(of_used(written), answer)
 }

@@ -1,17 +1,10 @@
 // Messages as numbers, and back: a message's number, 1 to 12 or 0 for an opaque payload, and six fields.
-ghost use Rattle.std.specs.Prelude.{◌≡◌, min};
-ghost use Rattle.gateway.specs.Numbers.{number_of, reply_fields, fetch_fields, fields_of, message_of};
+ghost use Rattle.std.specs.Prelude.{◌≡◌, ◌<◌, min};
+ghost use Rattle.varint.specs.Choice.{pick};
+ghost use Rattle.protocol.specs.Fields.{narrow, yes};
+ghost use Rattle.gateway.specs.Numbers.{number_of, reply_fields, fetch_fields, fields_of, span_at, is_flag, message_of};
 
-use protocol::message::{
-    ControlOp, ControlReply, Digest, ErrorCode, MaybeControlOp, MaybeErrorCode, MaybeMode, Message,
-    Mode, Span,
-};
-
-#[derive(Clone, Copy)]
-pub enum MaybeMessage {
-    Known(Message),
-    Unknown,
-}
+use protocol::message::{ControlOp, ControlReply, ErrorCode, Message, Mode, Span};
 
 // Which of the twelve a message is; an opaque payload is 0.
 pub(crate) fn number_of(message: Message) -> u64
@@ -49,12 +42,12 @@ fn reply_fields(reply: ControlReply) -> [u64; 6]
     }
 }
 
-fn fetch_fields(digest: Digest, count: u64) -> [u64; 6]
+fn fetch_fields(digest: Option<u64>, count: u64) -> [u64; 6]
     ensures { result ≡ fetch_fields digest count }
 {
     match digest {
-        Digest::Absent => [0, 0, count, 0, 0, 0],
-        Digest::Present(d) => [1, d, count, 0, 0, 0],
+        None => [0, 0, count, 0, 0, 0],
+        Some(d) => [1, d, count, 0, 0, 0],
     }
 }
 
@@ -73,7 +66,7 @@ pub(crate) fn fields_of(message: Message) -> [u64; 6]
             version as u64,
             d.start,
             d.len,
-            mode.as_byte() as u64,
+            u8::from(mode) as u64,
             f,
             claims,
         ],
@@ -82,7 +75,7 @@ pub(crate) fn fields_of(message: Message) -> [u64; 6]
             schema_fingerprint,
             predicates,
         } => [version as u64, schema_fingerprint, predicates, 0, 0, 0],
-        Message::Error { code, text } => [code.as_byte() as u64, text.start, text.len, 0, 0, 0],
+        Message::Error { code, text } => [u8::from(code) as u64, text.start, text.len, 0, 0, 0],
         Message::Complete { first, second } => [first, second, 0, 0, 0, 0],
         Message::Ids { count } => [count, 0, 0, 0, 0, 0],
         Message::Types { count } => [count, 0, 0, 0, 0, 0],
@@ -92,7 +85,7 @@ pub(crate) fn fields_of(message: Message) -> [u64; 6]
             allow_zero_facts,
             schema: s,
         } => [
-            op.as_byte() as u64,
+            u8::from(op) as u64,
             d.start,
             d.len,
             allow_zero_facts as u64,
@@ -122,171 +115,160 @@ fn byte_of(n: u64) -> u8
     n as u8
 }
 
-fn find_startup(f: &[u64; 6]) -> MaybeMessage
-    ensures { result ≡ message_of 1 f.now }
+// The text whose start and length stand in the fields from number `k` on.
+fn span_at(f: &[u64; 6], k: usize) -> Span
+    requires { k < 5 }
+    ensures { result ≡ span_at f.now k }
 {
-    let version = f[0];
-    if 0xFFFF_FFFF < version {
-        return MaybeMessage::Unknown;
-    }
-    match Mode::from_byte(byte_of(f[3])) {
-        MaybeMode::Unknown => MaybeMessage::Unknown,
-        MaybeMode::Known(mode) => MaybeMessage::Known(Message::Startup {
-            version: version as u32,
-            database: Span {
-                start: f[1],
-                len: f[2],
-            },
-            mode,
-            schema_fingerprint: f[4],
-            claims: f[5],
-        }),
+    Span {
+        start: f[k],
+        len: f[k + 1],
     }
 }
 
-fn find_ready(f: &[u64; 6]) -> MaybeMessage
+// A number of 32 bits.
+fn narrowed(n: u64) -> Option<u32>
+    ensures { result ≡ pick (narrow n) (Some n) None }
+{
+    u32::try_from(n).ok()
+}
+
+// A flag is 0 or 1.
+fn flag(n: u64) -> Option<bool>
+    ensures { result ≡ pick (is_flag n) (Some (yes n)) None }
+{
+    match n {
+        0 => Some(false),
+        1 => Some(true),
+        _ => None,
+    }
+}
+
+#[tactic(auto, unfolding(crate::specs::Numbers::message_of, crate::specs::Numbers::message_from, crate::specs::Numbers::is_message))]
+fn find_startup(f: &[u64; 6]) -> Option<Message>
+    ensures { result ≡ message_of 1 f.now }
+{
+    let version = narrowed(f[0])?;
+    let mode = Mode::try_from(byte_of(f[3])).ok()?;
+    Some(Message::Startup {
+        version,
+        database: span_at(f, 1),
+        mode,
+        schema_fingerprint: f[4],
+        claims: f[5],
+    })
+}
+
+#[tactic(auto, unfolding(crate::specs::Numbers::message_of, crate::specs::Numbers::message_from, crate::specs::Numbers::is_message))]
+fn find_ready(f: &[u64; 6]) -> Option<Message>
     ensures { result ≡ message_of 2 f.now }
 {
-    let version = f[0];
-    if 0xFFFF_FFFF < version {
-        return MaybeMessage::Unknown;
-    }
-    MaybeMessage::Known(Message::Ready {
-        version: version as u32,
+    let version = narrowed(f[0])?;
+    Some(Message::Ready {
+        version,
         schema_fingerprint: f[1],
         predicates: f[2],
     })
 }
 
-fn find_error(f: &[u64; 6]) -> MaybeMessage
+#[tactic(auto, unfolding(crate::specs::Numbers::message_of, crate::specs::Numbers::message_from, crate::specs::Numbers::is_message))]
+fn find_error(f: &[u64; 6]) -> Option<Message>
     ensures { result ≡ message_of 3 f.now }
 {
-    match ErrorCode::from_byte(byte_of(f[0])) {
-        MaybeErrorCode::Unknown => MaybeMessage::Unknown,
-        MaybeErrorCode::Known(code) => MaybeMessage::Known(Message::Error {
-            code,
-            text: Span {
-                start: f[1],
-                len: f[2],
-            },
-        }),
-    }
+    let code = ErrorCode::try_from(byte_of(f[0])).ok()?;
+    Some(Message::Error {
+        code,
+        text: span_at(f, 1),
+    })
 }
 
-fn find_control(f: &[u64; 6]) -> MaybeMessage
+#[tactic(auto, unfolding(crate::specs::Numbers::message_of, crate::specs::Numbers::message_from, crate::specs::Numbers::is_message))]
+fn find_control(f: &[u64; 6]) -> Option<Message>
     ensures { result ≡ message_of 7 f.now }
 {
-    let flag = f[3];
-    match ControlOp::from_byte(byte_of(f[0])) {
-        MaybeControlOp::Unknown => MaybeMessage::Unknown,
-        MaybeControlOp::Known(op) => {
-            if 1 < flag {
-                return MaybeMessage::Unknown;
-            }
-            MaybeMessage::Known(Message::Control {
-                op,
-                database: Span {
-                    start: f[1],
-                    len: f[2],
-                },
-                allow_zero_facts: flag != 0,
-                schema: Span {
-                    start: f[4],
-                    len: f[5],
-                },
-            })
-        }
-    }
+    let op = ControlOp::try_from(byte_of(f[0])).ok()?;
+    let allow_zero_facts = flag(f[3])?;
+    Some(Message::Control {
+        op,
+        database: span_at(f, 1),
+        allow_zero_facts,
+        schema: span_at(f, 4),
+    })
 }
 
-fn find_reply(f: &[u64; 6]) -> MaybeMessage
+#[tactic(auto, unfolding(crate::specs::Numbers::message_of, crate::specs::Numbers::message_from, crate::specs::Numbers::is_message))]
+fn find_reply(f: &[u64; 6]) -> Option<Message>
     ensures { result ≡ message_of 8 f.now }
 {
-    let flag = f[4];
-    match ControlOp::from_byte(byte_of(f[0])) {
-        MaybeControlOp::Unknown => MaybeMessage::Unknown,
-        MaybeControlOp::Known(op) => match op {
-            ControlOp::Create => MaybeMessage::Known(Message::Reply(ControlReply::Created {
-                instance: Span {
-                    start: f[1],
-                    len: f[2],
-                },
-            })),
-            ControlOp::Finish => {
-                if 1 < flag {
-                    return MaybeMessage::Unknown;
-                }
-                MaybeMessage::Known(Message::Reply(ControlReply::Finished {
-                    fingerprint: f[1],
-                    facts: f[2],
-                    bytes: f[3],
-                    already_complete: flag != 0,
-                }))
-            }
-            ControlOp::Remove => MaybeMessage::Known(Message::Reply(ControlReply::Removed)),
-        },
+    let op = ControlOp::try_from(byte_of(f[0])).ok()?;
+    match op {
+        ControlOp::Create => Some(Message::Reply(ControlReply::Created {
+            instance: span_at(f, 1),
+        })),
+        ControlOp::Finish => {
+            let already_complete = flag(f[4])?;
+            Some(Message::Reply(ControlReply::Finished {
+                fingerprint: f[1],
+                facts: f[2],
+                bytes: f[3],
+                already_complete,
+            }))
+        }
+        ControlOp::Remove => Some(Message::Reply(ControlReply::Removed)),
     }
 }
 
-fn find_fetch(f: &[u64; 6]) -> MaybeMessage
+#[tactic(auto, unfolding(crate::specs::Numbers::message_of, crate::specs::Numbers::message_from, crate::specs::Numbers::is_message))]
+fn find_fetch(f: &[u64; 6]) -> Option<Message>
     ensures { result ≡ message_of 11 f.now }
 {
-    match f[0] {
-        0 => MaybeMessage::Known(Message::Fetch {
-            digest: Digest::Absent,
-            count: f[2],
-        }),
-        1 => MaybeMessage::Known(Message::Fetch {
-            digest: Digest::Present(f[1]),
-            count: f[2],
-        }),
-        _ => MaybeMessage::Unknown,
-    }
+    let digest = match f[0] {
+        0 => None,
+        1 => Some(f[1]),
+        _ => return None,
+    };
+    Some(Message::Fetch {
+        digest,
+        count: f[2],
+    })
 }
 
-fn find_listing_digest(f: &[u64; 6]) -> MaybeMessage
+#[tactic(auto, unfolding(crate::specs::Numbers::message_of, crate::specs::Numbers::message_from, crate::specs::Numbers::is_message))]
+fn find_listing_digest(f: &[u64; 6]) -> Option<Message>
     ensures { result ≡ message_of 12 f.now }
 {
-    let predicate = f[0];
-    if 0xFFFF_FFFF < predicate {
-        return MaybeMessage::Unknown;
-    }
-    MaybeMessage::Known(Message::ListingDigest {
-        predicate: predicate as u32,
+    let predicate = narrowed(f[0])?;
+    Some(Message::ListingDigest {
+        predicate,
         digest: f[1],
     })
 }
 
 // The message of the twelve that has this number and these fields, if there is one.
-pub(crate) fn message_of(number: u64, f: &[u64; 6]) -> MaybeMessage
+#[tactic(auto, unfolding(crate::specs::Numbers::message_of, crate::specs::Numbers::message_from, crate::specs::Numbers::is_message))]
+pub(crate) fn message_of(number: u64, f: &[u64; 6]) -> Option<Message>
     ensures { result ≡ message_of number f.now }
 {
     match number {
         1 => find_startup(f),
         2 => find_ready(f),
         3 => find_error(f),
-        4 => MaybeMessage::Known(Message::Complete {
+        4 => Some(Message::Complete {
             first: f[0],
             second: f[1],
         }),
-        5 => MaybeMessage::Known(Message::Ids { count: f[0] }),
-        6 => MaybeMessage::Known(Message::Types { count: f[0] }),
+        5 => Some(Message::Ids { count: f[0] }),
+        6 => Some(Message::Types { count: f[0] }),
         7 => find_control(f),
         8 => find_reply(f),
-        9 => MaybeMessage::Known(Message::Profile { steps: f[0] }),
-        10 => MaybeMessage::Known(Message::Page {
+        9 => Some(Message::Profile { steps: f[0] }),
+        10 => Some(Message::Page {
             limit: f[0],
-            cursor: Span {
-                start: f[1],
-                len: f[2],
-            },
-            query: Span {
-                start: f[3],
-                len: f[4],
-            },
+            cursor: span_at(f, 1),
+            query: span_at(f, 3),
         }),
         11 => find_fetch(f),
         12 => find_listing_digest(f),
-        _ => MaybeMessage::Unknown,
+        _ => None,
     }
 }

@@ -1,13 +1,13 @@
 // The entry points of the receiver. The host lends its receiver: each wraps a step that takes by value what it alters, and gives it back.
 ghost use Rattle.std.specs.Prelude.{◌≡◌};
-ghost use Rattle.gateway.specs.FrameEntries.{of_opening, result_of, of_outcome, OpensTo, OffersTo};
+ghost use Rattle.gateway.specs.FrameEntries.{result_of, of_outcome, OpensTo, OffersTo};
 ghost use Rattle.frame.specs.Offering.{receiver_at};
 ghost use Rattle.gateway.specs.Answers.{numbers_of};
 
-use crate::answers::{Parts, accepted, given, of_message, refused, tell};
+use crate::answers::{accepted, given, of_done, of_message, tell};
 use crate::frames::with_header;
 use crate::named;
-use frame::receiver::{Opening, Outcome, Progress, Receiver, entry_of, open, step};
+use frame::receiver::{Outcome, Progress, Receiver, entry_of, open, step};
 
 // The receiver after an opening, and the result.
 #[derive(Clone, Copy)]
@@ -21,15 +21,6 @@ pub struct Stepped {
 pub struct Advanced {
     pub progress: Progress,
     pub code: u64,
-}
-
-fn of_opening(o: Opening) -> Parts
-    ensures { result ≡ of_opening o }
-{
-    match o {
-        Opening::Accepted => accepted(0, 0, [0; 6]),
-        Opening::Refused(e) => refused(0, e),
-    }
 }
 
 // Tells an outcome, the message's number by the kind table, and gives the call's result.
@@ -74,7 +65,7 @@ pub fn open_step(
     let opened = open(receiver, table, hold);
     let after = opened.receiver;
     let opening = opened.opening;
-    let code = tell(of_opening(opening), answer);
+    let code = tell(of_done(opening), answer);
     Stepped {
         receiver: after,
         code,

@@ -8,10 +8,10 @@ ghost use Rattle.std.specs.Io.KnownBytes.{Appends, Consumes, IsAtEnd, Keeps};
 ghost use Rattle.io.specs.Counts.{IsPrefixLen};
 
 use frame::receiver;
-use frame::receiver::{Opening, Receiver};
+use frame::receiver::Receiver;
 use listing::Last;
 use std::io::{Error, ErrorKind, Read, Result, Write};
-use varint::error::code_of;
+use varint::error::Code;
 
 // How much of a run is read at once.
 const CHUNK: usize = 32768;
@@ -40,7 +40,7 @@ fn read_some<R: Read>(input: &mut R, buf: &mut [u8]) -> Result<usize>
     Err(Error::from(ErrorKind::Interrupted))
 }
 
-// Reads until `buf` is full or the input ends, however few bytes a read brings.
+// Reads until `buf` is full or the input ends, however few bytes a read brings. No `for`: each read tells how far it came.
 fn read_full<R: Read>(input: &mut R, buf: &mut [u8]) -> Result<usize>
     ensures bound { IfOk result (λ n. IsPrefixLen n buf.new) }
     ensures taken { IfOk result (λ n. Consumes (R.remaining input.old) (R.remaining input.new) (take n buf.new)) }
@@ -74,7 +74,7 @@ fn write_some<W: Write>(output: &mut W, text: &[u8]) -> Result<usize>
     Err(Error::from(ErrorKind::Interrupted))
 }
 
-// Prints the first `len` bytes of a page.
+// Prints the first `len` bytes of a page. No `for`, as above.
 fn print<W: Write>(output: &mut W, page: &[u8], len: usize) -> Result<()>
     requires { len ≤ length page.now }
     ensures { OnOk result (Appends (W.contents output.old) (W.contents output.new) (take len page.now)) }
@@ -203,8 +203,8 @@ fn main(rt: HostRuntime) -> Result<()> {
     let o = receiver::open(receiver::unopened(), &table[..n], &mut hold);
     let opening = o.opening;
     match opening {
-        Opening::Refused(e) => print_last(&mut output, Last::Stopped(code_of(e).number)),
-        Opening::Accepted => {
+        Err(e) => print_last(&mut output, Last::Stopped(Code::from(e).number)),
+        Ok(()) => {
             let r = o.receiver;
             list_opened(r, &mut input, &mut output, &mut hold)
         }

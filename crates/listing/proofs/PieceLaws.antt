@@ -9,7 +9,6 @@ use lib.ListN.{length, drop, length-append, length-drop}
 use lib.Seq.{sets, length-sets, take_all, drop-drop}
 use Rattle.varint.specs.Outs.{declared}
 use Rattle.varint.proofs.StoreLaws.{sets_append}
-use Rattle.protocol.specs.declared.message.Answer.{Answer}
 use Rattle.frame.specs.declared.FrameHeader.{FrameHeader}
 use Rattle.frame.specs.declared.receiver.Outcome.{Outcome}
 use Rattle.frame.specs.declared.receiver.Outcome.TheVariants.{More, Handed, Stopped, Refused}
@@ -25,6 +24,9 @@ use Rattle.listing.specs.Lines.{line_of, number_of}
 use Rattle.listing.specs.Listing.{lines_of, last_of, Listing, listed}
 use Rattle.listing.specs.Inner.Lasts.{last_by}
 use Rattle.listing.proofs.PageLaws.{sets_past}
+use Rattle.std.specs.Prelude.{Result}
+use Rattle.varint.specs.declared.error.Refusal.{Refusal}
+use Rattle.protocol.specs.declared.message.Message.{Message}
 
 -- the furthest place that is counted
 abbrev pub furthest : ℕ
@@ -34,7 +36,7 @@ furthest = 18446744073709551615
 abbrev pub run_of : World → List ℕ → Run
 run_of w p = (driving editor w (p ∷ [])).run
 
-abbrev pub line_by : FrameHeader → Answer → List ℕ
+abbrev pub line_by : FrameHeader → Result Message Refusal → List ℕ
 line_by h a = line_of h.kind h.stream h.length (number_of a)
 
 -- the lines of a run from a place of the page on
@@ -51,7 +53,7 @@ unfolding from listed
 from_start r page = rw zero-add
 
 -- a frame's line, and then the rest
-from_after : (h : FrameHeader) (a : Answer) (b : Lent) (u : ℕ) (r : Run) (page : List ℕ) (at : ℕ) → length page ≤ furthest
+from_after : (h : FrameHeader) (a : Result Message Refusal) (b : Lent) (u : ℕ) (r : Run) (page : List ℕ) (at : ℕ) → length page ≤ furthest
     → from (after (frame h a b) u r) page at ≡ from r (sets page at (line_by h a)) (declared (at + length (line_by h a)))
 unfolding from lines_of last_of after
 from_after h a b u r page at f =
@@ -63,13 +65,13 @@ from_after h a b u r page at f =
     rw (length-append, s, n)
 
 module _ (w : World) (p page : List ℕ) (at : ℕ) where
-  from_handed : (h : FrameHeader) (a : Answer) → (offering editor w p).outcome ≡ Handed h a → length page ≤ furthest
+  from_handed : (h : FrameHeader) (a : Result Message Refusal) → (offering editor w p).outcome ≡ Handed h a → length page ≤ furthest
       → from (run_of w p) page at
       ≡ from (run_of (offering editor w p).world (drop (offering editor w p).used p)) (sets page at (line_by h a)) (declared (at + length (line_by h a)))
   from_handed h a e f = ap (λ (d : Driven). from d.run page at) (driving_handed editor w p [] h a e) ∙ from_after h a _ _ _ page at f
 
   -- any other outcome
-  from_last : (x : Outcome) → ((h : FrameHeader) (a : Answer) → x ≡ Handed h a → ⊥) → (offering editor w p).outcome ≡ x → at ≤ furthest
+  from_last : (x : Outcome) → ((h : FrameHeader) (a : Result Message Refusal) → x ≡ Handed h a → ⊥) → (offering editor w p).outcome ≡ x → at ≤ furthest
       → from (run_of w p) page at ≡ record { world = (offering editor w p).world; last = last_by x (offering editor w p).world.receiver; len = at; page = page }
   unfolding from lines_of last_of plus after done later
   from_last More k e f =
@@ -104,7 +106,7 @@ module _ {to : Listing} {piece : List ℕ} {w : World} {page : List ℕ} {at len
   next = world_of (receiver_at table o.progress) hold text rows nodes
 
   -- a frame
-  module _ (h : FrameHeader) (a : Answer) (f : o.outcome ≡ Handed h a) where
+  module _ (h : FrameHeader) (a : Result Message Refusal) (f : o.outcome ≡ Handed h a) where
     handed : (offering editor w (drop at piece)).outcome ≡ Handed h a
     handed = sym (ap (λ (x : Offer). x.outcome) offered) ∙ f
 
@@ -131,7 +133,7 @@ module _ {to : Listing} {piece : List ℕ} {w : World} {page : List ℕ} {at len
         }
 
   -- the end
-  pub go_end : {last : Last} → ((h : FrameHeader) (a : Answer) → o.outcome ≡ Handed h a → ⊥) → last ≡ last_by o.outcome (receiver_at table o.progress)
+  pub go_end : {last : Last} → ((h : FrameHeader) (a : Result Message Refusal) → o.outcome ≡ Handed h a → ⊥) → last ≡ last_by o.outcome (receiver_at table o.progress)
       → (record { world = next; last = last; len = len; page = page } ≡ to) × (9 * len ≤ 84 * (length piece + 9))
   go_end k q =
       let i = g.within in

@@ -1,13 +1,13 @@
 -- The lister's lines, as bytes.
-use Rattle.std.specs.Prelude.{true, false, ◌≡◌, refl, List, [], ◌∷◌, ◌++◌, ℕ, zero, suc, ◌+◌, ◌/◌, ◌%◌, ltb}
+use Rattle.std.specs.Prelude.{true, false, ◌≡◌, refl, List, [], ◌∷◌, ◌++◌, ℕ, zero, suc, ◌+◌, ◌/◌, ◌%◌, ltb, Result, Ok, Err}
 use Rattle.varint.specs.Outs.{declared}
 use Rattle.varint.specs.Refusals.{code_of}
 use Rattle.varint.specs.declared.error.Refusal.TheVariants.{UnexpectedEof}
-use Rattle.protocol.specs.declared.message.Answer.{Answer}
-use Rattle.protocol.specs.declared.message.Answer.TheVariants.{Accepted, Refused}
 use Rattle.frame.specs.declared.receiver.Receiver.{Receiver}
 use Rattle.listing.specs.declared.Last.{Last}
 use Rattle.listing.specs.declared.Last.TheVariants.{Held, Stopped}
+use Rattle.varint.specs.declared.error.Refusal.{Refusal}
+use Rattle.protocol.specs.declared.message.Message.{Message}
 
 -- The digits of n to the base 10, the greatest first, by at most so many divisions.
 unfoldable pub decimal_by : ℕ → ℕ → List ℕ
@@ -27,9 +27,9 @@ unfoldable pub line_of : (kind stream len number : ℕ) → List ℕ
 line_of kind stream len number = column kind 0x20 ++ column stream 0x20 ++ column len 0x20 ++ column number 0x0A
 
 -- "0 or the refusal's number"
-abbrev pub number_of : Answer → ℕ
-number_of (Accepted m) = 0
-number_of (Refused e) = (code_of e).number
+abbrev pub number_of : Result Message Refusal → ℕ
+number_of (Ok m) = 0
+number_of (Err e) = (code_of e).number
 
 -- "the count of header and payload bytes held". Of a receiver that no offer leaves the sum may be over 64 bits: 2^64−1 stands for it.
 abbrev pub held_of : Receiver → ℕ
@@ -66,5 +66,5 @@ example_largest : decimal 18446744073709551615
 unfolding decimal decimal_by
 example_largest = refl
 
-example_number : number_of (Refused UnexpectedEof) ≡ 1
+example_number : number_of (Err UnexpectedEof) ≡ 1
 example_number = refl

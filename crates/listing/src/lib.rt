@@ -2,7 +2,7 @@
 // answers how many bytes its text has.
 #![tactic(auto)]
 
-ghost use Rattle.std.specs.Prelude.{◌≡◌, [], ◌∷◌, ◌+◌, ◌*◌, ◌≤◌, min, length};
+ghost use Rattle.std.specs.Prelude.{◌≡◌, [], ◌∷◌, ◌+◌, ◌*◌, ◌≤◌, length};
 ghost use Rattle.std.proofs.lemmas.List.Edits.{sets};
 ghost use Rattle.varint.specs.Outs.{declared};
 ghost use Rattle.frame.specs.Worlds.{editor};
@@ -14,9 +14,9 @@ ghost use Rattle.listing.specs.Lines.{decimal, column, line_of, number_of, held_
 
 use frame::receiver::{Outcome, Receiver};
 use frame::{FrameHeader, receiver};
-use protocol::message::Answer;
-use varint::error::code_of;
-use varint::store::{copy_bytes, store_byte};
+use protocol::message::Message;
+use varint::error::{Code, Refusal};
+use varint::store::{copy_bytes, store};
 
 // How a run ends: the count of header and payload bytes that are held, or the number of the refusal that stopped it.
 #[derive(Clone, Copy)]
@@ -41,17 +41,17 @@ fn put_column(out: &mut [u8], at: usize, n: u64, end: u8) -> usize
     ensures { (result ≡ length (column n end)) × (result ≤ 21) × (out.new ≡ sets out.old at (column n end)) }
 {
     let count = put_decimal(out, at, n);
-    store_byte(out, at + count, end);
+    store(out, at + count, end);
     count + 1
 }
 
 // 0, or the number of the refusal.
-pub fn number_of(answer: Answer) -> u64
+pub fn number_of(answer: Result<Message, Refusal>) -> u64
     ensures { result ≡ number_of answer }
 {
     match answer {
-        Answer::Accepted(_) => 0,
-        Answer::Refused(e) => code_of(e).number,
+        Ok(_) => 0,
+        Err(e) => Code::from(e).number,
     }
 }
 
@@ -102,18 +102,12 @@ pub struct Listed {
     pub last: Last,
 }
 
-fn least(a: usize, b: usize) -> usize
-    ensures { result ≡ min a b }
-{
-    if a < b { a } else { b }
-}
-
 // The line of a frame, from place `at` of the page on: what lies past the page's end is counted and not stored. Answers the place after it, 2^64−1 for any
 // place past that.
 fn add_line(page: &mut [u8], at: usize, header: FrameHeader, number: u64) -> usize
     ensures { (result ≡ declared (at + length (line_of header.kind header.stream header.length number))) × (result ≤ at + 84) × (page.new ≡ sets page.old at (line_of header.kind header.stream header.length number)) }
 {
-    let from = least(at, page.len());
+    let from = at.min(page.len());
     let count = put_line(
         &mut page[from..],
         header.kind,
@@ -143,7 +137,7 @@ fn last_of(receiver: Receiver, outcome: Outcome) -> Last
 }
 
 // Offers a piece until it is used up or the run ends, and puts the lines of its frames on the page. A page of 84 bytes for each nine bytes of the piece, and 84
-// more, has room for them all.
+// more, has room for them all. No `for`: each step tells how much of the piece it used.
 pub fn list_piece(
     receiver: Receiver,
     piece: &[u8],

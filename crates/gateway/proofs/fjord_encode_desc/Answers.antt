@@ -4,4 +4,4 @@ use Rattle.gateway.proofs.fjord_encode_desc.Goals as goal
 
 pub returns : goal.returns
 unfolding encode_desc_call
-returns c = sent_told c.tell.ensures c.encode_desc-written.ensures c.of_written.ensures
+returns c = sent_told c.tell.ensures c.encode_desc-written.ensures c.of_used.ensures

@@ -20,10 +20,10 @@ pub returns-then-at-count : goal.returns-then-at-count
 returns-then-at-count c =
     let a = c.args in
     let s = c.put_line-count.ensures in
-    (omega arith, omega arith, placed (line_of a.header.kind a.header.stream a.header.length a.number) a.page.now a.at c.least-from.result c.least-from.ensures s.2)
+    (omega arith, omega arith, placed (line_of a.header.kind a.header.stream a.header.length a.number) a.page.now a.at c.min-from.result c.min-from.ensures s.2)
 
 pub returns : goal.returns
 returns c =
     let a = c.args in
     let s = c.put_line-count.ensures in
-    (omega arith, omega arith, placed (line_of a.header.kind a.header.stream a.header.length a.number) a.page.now a.at c.least-from.result c.least-from.ensures s.2)
+    (omega arith, omega arith, placed (line_of a.header.kind a.header.stream a.header.length a.number) a.page.now a.at c.min-from.result c.min-from.ensures s.2)

@@ -25,4 +25,4 @@ overflow_add-result c = omega (arith, c.put_decimal-count.ensures.0, decimal_len
 pub returns : goal.returns
 returns c =
     let a = c.args in
-    ended a.n a.end a.at _ a.out.now c.ranges.n.fits c.put_decimal-count.ensures.0 c.put_decimal-count.ensures.1 c.store_byte.ensures
+    ended a.n a.end a.at _ a.out.now c.ranges.n.fits c.put_decimal-count.ensures.0 c.put_decimal-count.ensures.1 c.store.ensures

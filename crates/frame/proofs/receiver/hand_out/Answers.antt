@@ -7,4 +7,4 @@ pub slice_bounds-decode-end-2 : goal.slice_bounds-decode-end-2
 slice_bounds-decode-end-2 c = sym (length-take-le _ _ c.requires)
 
 pub returns : goal.returns
-returns c = handed_out _ _ _ _ _ _ _ _ _ _ _ _ _ _ c.entry_of-entry.ensures c.decode-answer.ensures c.clear_bytes.ensures c.advance.ensures
+returns c = handed_out _ _ _ _ _ _ _ _ _ _ _ _ _ _ c.entry_of-entry.ensures c.decode-answer.ensures c.fill_from.ensures c.advance.ensures

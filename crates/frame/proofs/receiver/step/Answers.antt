@@ -1,17 +1,8 @@
 use Rattle.frame.specs.Offering.{receiver_at}
 use mathlib.Core.Path.{sym, ◌∙◌}
 use Rattle.frame.proofs.ReceiverFacts.{nine}
-use Rattle.frame.proofs.ReceiverSteps.{header_fits, wrong_hold, stopped_before, wrong_counts, header_short, header_there, room}
+use Rattle.frame.proofs.ReceiverSteps.{header_fits, header_short, header_there, room}
 use Rattle.frame.proofs.receiver.step.Goals as goal
-
-pub returns-then-hold-progress : goal.returns-then-hold-progress
-returns-then-hold-progress c = wrong_hold (receiver_at c.args.table.now c.args.progress) c.args.piece.now c.args.hold.now c.args.text.now c.args.rows.now c.args.nodes.now _ _ c.if-hold-progress.true c.code_of.ensures c.decline.ensures
-
-pub returns-then-progress-ne0 : goal.returns-then-progress-ne0
-returns-then-progress-ne0 c = stopped_before (receiver_at c.args.table.now c.args.progress) c.args.piece.now c.args.hold.now c.args.text.now c.args.rows.now c.args.nodes.now _ c.if-hold-progress.false c.if-progress-ne0.true c.decline-then-progress-ne0.ensures
-
-pub returns-then-impossible : goal.returns-then-impossible
-returns-then-impossible c = wrong_counts (receiver_at c.args.table.now c.args.progress) c.args.piece.now c.args.hold.now c.args.text.now c.args.rows.now c.args.nodes.now _ _ c.if-hold-progress.false c.if-progress-ne0.false (sym c.impossible.ensures ∙ c.if-impossible.true) c.code_of-then-impossible.ensures c.decline-then-impossible.ensures
 
 pub overflow_sub-lacking : goal.overflow_sub-lacking
 overflow_sub-lacking c = (header_fits c.args.progress (nine c.args.progress c.well_formed.1.0) (sym c.impossible.ensures ∙ c.if-impossible.false))

@@ -2,4 +2,4 @@ use mathlib.Core.Path.{◌∙◌}
 use Rattle.gateway.proofs.answers.refused.Goals as goal
 
 pub returns : goal.returns
-returns c = c.given.ensures ∙ simp c.code_of.ensures
+returns c = c.given.ensures ∙ simp c.from.ensures

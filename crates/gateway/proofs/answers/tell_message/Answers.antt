@@ -1,8 +1,8 @@
 use Rattle.gateway.proofs.EntryLaws.{accepted_told, refused_told}
 use Rattle.gateway.proofs.answers.tell_message.Goals as goal
 
-pub returns-in-Accepted : goal.returns-in-Accepted
-returns-in-Accepted c = accepted_told _ c.write_answer.ensures c.in-Accepted.is c.number_of-number.ensures c.fields_of-f.ensures
+pub returns-in-Ok : goal.returns-in-Ok
+returns-in-Ok c = accepted_told _ c.write_answer.ensures c.in-Ok.is c.number_of-number.ensures c.fields_of-f.ensures
 
-pub returns-in-Refused : goal.returns-in-Refused
-returns-in-Refused c = refused_told _ c.write_answer-in-Refused.ensures c.in-Refused.is c.code_of-refusal.ensures
+pub returns-in-Err : goal.returns-in-Err
+returns-in-Err c = refused_told _ c.write_answer-in-Err.ensures c.in-Err.is c.from-refusal.ensures

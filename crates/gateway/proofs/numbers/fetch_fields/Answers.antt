@@ -1,7 +1,7 @@
 use Rattle.gateway.proofs.numbers.fetch_fields.Goals as goal
 
-pub returns-in-Absent : goal.returns-in-Absent
-returns-in-Absent c = simp c.in-Absent.is
+pub returns-in-None : goal.returns-in-None
+returns-in-None c = simp c.in-None.is
 
-pub returns-in-Present : goal.returns-in-Present
-returns-in-Present c = simp c.in-Present.is
+pub returns-in-Some : goal.returns-in-Some
+returns-in-Some c = simp c.in-Some.is

@@ -1,13 +1,13 @@
 use Rattle.gateway.proofs.numbers.fields_of.Goals as goal
 
 pub returns-in-Startup : goal.returns-in-Startup
-returns-in-Startup c = simp (c.in-Startup.is, c.as_byte.ensures)
+returns-in-Startup c = simp (c.in-Startup.is, c.from.ensures)
 
 pub returns-in-Ready : goal.returns-in-Ready
 returns-in-Ready c = simp c.in-Ready.is
 
 pub returns-in-Error : goal.returns-in-Error
-returns-in-Error c = simp (c.in-Error.is, c.as_byte-in-Error.ensures)
+returns-in-Error c = simp (c.in-Error.is, c.from-in-Error.ensures)
 
 pub returns-in-Complete : goal.returns-in-Complete
 returns-in-Complete c = simp c.in-Complete.is
@@ -19,7 +19,7 @@ pub returns-in-Types : goal.returns-in-Types
 returns-in-Types c = simp c.in-Types.is
 
 pub returns-in-Control : goal.returns-in-Control
-returns-in-Control c = simp (c.in-Control.is, c.as_byte-in-Control.ensures)
+returns-in-Control c = simp (c.in-Control.is, c.from-in-Control.ensures)
 
 pub returns-in-Reply : goal.returns-in-Reply
 returns-in-Reply c = simp (c.in-Reply.is, c.reply_fields.ensures)
