@@ -1,206 +1,145 @@
 // A message as seven numbers: the number of the message, 0 for an opaque payload, and its fields in their order; a text is two of them, its start
 // and its length. A control reply's first field is its op, a fetch's whether it has a digest. What is over is 0.
-use protocol::message::{
-    ControlOp, ControlReply, Digest, ErrorCode, MaybeControlOp, MaybeErrorCode, MaybeMode, Message,
-    Mode, Span,
-};
+use crate::fault::Fault;
+use protocol::message::{ControlReply, Message, Span};
 
-#[derive(Clone, Copy)]
-pub enum MaybeMessage {
-    Known(Message),
-    Unknown,
-}
+pub type Fields = [u64; 7];
 
-fn of_reply(reply: ControlReply) -> [u64; 7] {
+fn fields_of_reply(reply: ControlReply) -> Fields {
     match reply {
-        ControlReply::Created { instance } => [8, 1, instance.start, instance.len, 0, 0, 0],
+        ControlReply::Created { instance: i } => [8, 1, i.start, i.len, 0, 0, 0],
         ControlReply::Finished {
             fingerprint,
             facts,
             bytes,
-            already_complete,
-        } => [8, 2, fingerprint, facts, bytes, already_complete as u64, 0],
+            already_complete: done,
+        } => [8, 2, fingerprint, facts, bytes, done.into(), 0],
         ControlReply::Removed => [8, 3, 0, 0, 0, 0, 0],
     }
 }
 
-fn of_fetch(digest: Digest, count: u64) -> [u64; 7] {
-    match digest {
-        Digest::Absent => [11, 0, 0, count, 0, 0, 0],
-        Digest::Present(d) => [11, 1, d, count, 0, 0, 0],
-    }
-}
-
-pub(crate) fn of_message(message: Message) -> [u64; 7] {
+pub fn fields_of(message: Message) -> Fields {
     match message {
+        Message::Opaque { payload: p } => [0, p.start, p.len, 0, 0, 0, 0],
         Message::Startup {
             version,
             database: d,
             mode,
             schema_fingerprint: f,
             claims,
-        } => [
-            1,
-            version as u64,
-            d.start,
-            d.len,
-            mode.as_byte() as u64,
-            f,
-            claims,
-        ],
+        } => [1, version.into(), d.start, d.len, mode as u64, f, claims],
         Message::Ready {
             version,
-            schema_fingerprint,
+            schema_fingerprint: f,
             predicates,
-        } => [2, version as u64, schema_fingerprint, predicates, 0, 0, 0],
-        Message::Error { code, text } => {
-            [3, code.as_byte() as u64, text.start, text.len, 0, 0, 0]
-        }
+        } => [2, version.into(), f, predicates, 0, 0, 0],
+        Message::Error { code, text: t } => [3, code as u64, t.start, t.len, 0, 0, 0],
         Message::Complete { first, second } => [4, first, second, 0, 0, 0, 0],
         Message::Ids { count } => [5, count, 0, 0, 0, 0, 0],
         Message::Types { count } => [6, count, 0, 0, 0, 0, 0],
         Message::Control {
             op,
             database: d,
-            allow_zero_facts,
+            allow_zero_facts: z,
             schema: s,
-        } => [
-            7,
-            op.as_byte() as u64,
-            d.start,
-            d.len,
-            allow_zero_facts as u64,
-            s.start,
-            s.len,
-        ],
-        Message::Reply(reply) => of_reply(reply),
+        } => [7, op as u64, d.start, d.len, z.into(), s.start, s.len],
+        Message::Reply(reply) => fields_of_reply(reply),
         Message::Profile { steps } => [9, steps, 0, 0, 0, 0, 0],
         Message::Page {
             limit,
             cursor: c,
             query: q,
         } => [10, limit, c.start, c.len, q.start, q.len, 0],
-        Message::Fetch { digest, count } => of_fetch(digest, count),
-        Message::ListingDigest { predicate, digest } => {
-            [12, predicate as u64, digest, 0, 0, 0, 0]
+        Message::Fetch { digest: d, count } => {
+            [11, d.is_some().into(), d.unwrap_or(0), count, 0, 0, 0]
         }
-        Message::Opaque { payload } => [0, payload.start, payload.len, 0, 0, 0, 0],
+        Message::ListingDigest { predicate, digest } => {
+            [12, predicate.into(), digest, 0, 0, 0, 0]
+        }
     }
 }
 
-// The number as a byte, or 255, which is no mode, no code and no op.
-pub(crate) fn byte(n: u64) -> u8 {
-    if n < 256 { n as u8 } else { 255 }
+// The number in the type of a field, where it is one of that type.
+fn fit<T, U: TryFrom<T>>(x: T) -> Result<U, Fault>
+where
+    U::Error: Drop,
+{
+    U::try_from(x).map_err(|_| Fault::Malformed)
 }
 
-// The number in 32 bits; one that is too great becomes the greatest, and the bytes then differ from recorded ones.
-pub(crate) fn narrow(n: u64) -> u32 {
-    if n < 0x1_0000_0000 {
-        n as u32
-    } else {
-        0xffff_ffff
-    }
+// A field that is a byte on the wire.
+fn code<T: TryFrom<u8>>(n: u64) -> Result<T, Fault>
+where
+    T::Error: Drop,
+{
+    fit(fit::<u64, u8>(n)?)
 }
 
 fn span(start: u64, len: u64) -> Span {
     Span { start, len }
 }
 
-fn to_startup(f: [u64; 7]) -> MaybeMessage {
-    match Mode::from_byte(byte(f[4])) {
-        MaybeMode::Known(mode) => MaybeMessage::Known(Message::Startup {
-            version: narrow(f[1]),
-            database: span(f[2], f[3]),
-            mode,
-            schema_fingerprint: f[5],
-            claims: f[6],
-        }),
-        MaybeMode::Unknown => MaybeMessage::Unknown,
-    }
-}
-
-fn to_error(f: [u64; 7]) -> MaybeMessage {
-    match ErrorCode::from_byte(byte(f[1])) {
-        MaybeErrorCode::Known(code) => MaybeMessage::Known(Message::Error {
-            code,
-            text: span(f[2], f[3]),
-        }),
-        MaybeErrorCode::Unknown => MaybeMessage::Unknown,
-    }
-}
-
-fn to_control(f: [u64; 7]) -> MaybeMessage {
-    match ControlOp::from_byte(byte(f[1])) {
-        MaybeControlOp::Known(op) => MaybeMessage::Known(Message::Control {
-            op,
-            database: span(f[2], f[3]),
-            allow_zero_facts: f[4] == 1,
-            schema: span(f[5], f[6]),
-        }),
-        MaybeControlOp::Unknown => MaybeMessage::Unknown,
-    }
-}
-
-fn to_reply(f: [u64; 7]) -> MaybeMessage {
-    match f[1] {
-        1 => MaybeMessage::Known(Message::Reply(ControlReply::Created {
-            instance: span(f[2], f[3]),
-        })),
-        2 => MaybeMessage::Known(Message::Reply(ControlReply::Finished {
-            fingerprint: f[2],
-            facts: f[3],
-            bytes: f[4],
-            already_complete: f[5] == 1,
-        })),
-        3 => MaybeMessage::Known(Message::Reply(ControlReply::Removed)),
-        _ => MaybeMessage::Unknown,
-    }
-}
-
-fn to_fetch(f: [u64; 7]) -> MaybeMessage {
-    let digest = if f[1] == 1 {
-        Digest::Present(f[2])
-    } else {
-        Digest::Absent
-    };
-    MaybeMessage::Known(Message::Fetch {
-        digest,
-        count: f[3],
+fn reply_of(fields: Fields) -> Result<ControlReply, Fault> {
+    Ok(match fields {
+        [_, 1, start, len, ..] => ControlReply::Created {
+            instance: span(start, len),
+        },
+        [_, 2, fingerprint, facts, bytes, complete, _] => ControlReply::Finished {
+            fingerprint,
+            facts,
+            bytes,
+            already_complete: complete == 1,
+        },
+        [_, 3, ..] => ControlReply::Removed,
+        _ => return Err(Fault::Malformed),
     })
 }
 
-pub(crate) fn to_message(f: [u64; 7]) -> MaybeMessage {
-    let message = match f[0] {
-        0 => Message::Opaque {
-            payload: span(f[1], f[2]),
+pub fn message_of(fields: Fields) -> Result<Message, Fault> {
+    Ok(match fields {
+        [0, start, len, ..] => Message::Opaque {
+            payload: span(start, len),
         },
-        1 => return to_startup(f),
-        2 => Message::Ready {
-            version: narrow(f[1]),
-            schema_fingerprint: f[2],
-            predicates: f[3],
+        [1, version, start, len, mode, schema_fingerprint, claims] => Message::Startup {
+            version: fit(version)?,
+            database: span(start, len),
+            mode: code(mode)?,
+            schema_fingerprint,
+            claims,
         },
-        3 => return to_error(f),
-        4 => Message::Complete {
-            first: f[1],
-            second: f[2],
+        [2, version, schema_fingerprint, predicates, ..] => Message::Ready {
+            version: fit(version)?,
+            schema_fingerprint,
+            predicates,
         },
-        5 => Message::Ids { count: f[1] },
-        6 => Message::Types { count: f[1] },
-        7 => return to_control(f),
-        8 => return to_reply(f),
-        9 => Message::Profile { steps: f[1] },
-        10 => Message::Page {
-            limit: f[1],
-            cursor: span(f[2], f[3]),
-            query: span(f[4], f[5]),
+        [3, number, start, len, ..] => Message::Error {
+            code: code(number)?,
+            text: span(start, len),
         },
-        11 => return to_fetch(f),
-        12 => Message::ListingDigest {
-            predicate: narrow(f[1]),
-            digest: f[2],
+        [4, first, second, ..] => Message::Complete { first, second },
+        [5, count, ..] => Message::Ids { count },
+        [6, count, ..] => Message::Types { count },
+        [7, op, d, d_len, zero, s, s_len] => Message::Control {
+            op: code(op)?,
+            database: span(d, d_len),
+            allow_zero_facts: zero == 1,
+            schema: span(s, s_len),
         },
-        _ => return MaybeMessage::Unknown,
-    };
-    MaybeMessage::Known(message)
+        [8, ..] => Message::Reply(reply_of(fields)?),
+        [9, steps, ..] => Message::Profile { steps },
+        [10, limit, c, c_len, q, q_len, _] => Message::Page {
+            limit,
+            cursor: span(c, c_len),
+            query: span(q, q_len),
+        },
+        [11, has_digest, digest, count, ..] => Message::Fetch {
+            digest: (has_digest == 1).then_some(digest),
+            count,
+        },
+        [12, predicate, digest, ..] => Message::ListingDigest {
+            predicate: fit(predicate)?,
+            digest,
+        },
+        _ => return Err(Fault::Malformed),
+    })
 }

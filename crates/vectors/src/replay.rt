@@ -1,139 +1,63 @@
 // One line of a data file: the request is replayed, and its answer compared with the recorded one.
-use crate::answer::Outcome;
-use crate::parts::{after, front};
-use crate::{decode_ops, encode_ops, varint_ops};
-use check::same;
-use std::io::Result;
+use crate::answer::Answer;
+use crate::fault::Fault;
+use crate::request::Request;
+use crate::{frame_ops, list_ops, message_ops, varint_ops};
+use std::alloc::Global;
+use varint::{fixed, signed, text};
 
-// How many requests were replayed, and how many of them differ.
-#[derive(Clone, Copy)]
-pub struct Tally {
-    pub lines: u64,
-    pub differ: u64,
+// A line has at most so many bytes.
+pub const MAX_LINE: usize = 16384;
+
+// Replays a line that has a request; an answer other than the recorded one is an error too.
+pub fn replay_line(alloc: Global, line: &str) -> Result<(), Fault> {
+    if line.len() > MAX_LINE {
+        return Err(Fault::TooLong);
+    }
+    let (request, recorded) = line.split_once(" = ").ok_or(Fault::NoAnswer)?;
+    let mut request = Request::new(alloc, request);
+    let answer = perform(&mut request)?;
+    request.end()?;
+    if answer.as_str() != recorded {
+        return Err(Fault::Differs(answer));
+    }
+    Ok(())
 }
 
-impl Tally {
-    pub(crate) fn new() -> Tally {
-        Tally {
-            lines: 0,
-            differ: 0,
-        }
+fn perform(request: &mut Request<'_>) -> Answer {
+    match request.name {
+        "get_u64" => varint_ops::get(request, varint::get_u64),
+        "get_i64" => varint_ops::get(request, signed::get_i64),
+        "get_u32_le" => varint_ops::get(request, fixed::get_u32_le),
+        "get_u64_le" => varint_ops::get(request, fixed::get_u64_le),
+        "get_str" => varint_ops::get_text(request, text::get_str),
+        "take_name" => varint_ops::get_text(request, text::take_name),
+        "put_u64" => varint_ops::put(request, varint::put_u64),
+        "put_i64" => varint_ops::put(request, signed::put_i64),
+        "put_u32_le" => varint_ops::put_fixed(request, fixed::put_u32_le),
+        "put_u64_le" => varint_ops::put_fixed(request, fixed::put_u64_le),
+        "encode_u64" => varint_ops::encode_u64(request),
+        "len_u64" => varint_ops::len_u64(request),
+        "zigzag" => varint_ops::zigzag(request),
+        "unzigzag" => varint_ops::unzigzag(request),
+        "is_utf8" => varint_ops::is_utf8(request),
+        "store_byte" => varint_ops::store_byte(request),
+        "store_number" => varint_ops::store_number(request),
+        "clear_bytes" => varint_ops::clear_bytes(request),
+        "clear_numbers" => varint_ops::clear_numbers(request),
+        "copy_bytes" => varint_ops::copy_bytes(request),
+        "decode_desc" => message_ops::decode_desc(request),
+        "decode" => message_ops::decode(request),
+        "encode_desc" => message_ops::encode_desc(request),
+        "encode" => message_ops::encode(request),
+        "encode_frame" => frame_ops::encode_frame(request),
+        "decode_header" => frame_ops::decode_header(request),
+        "decode_frame" => frame_ops::decode_frame(request),
+        "put_slot" => frame_ops::put_slot(request),
+        "open" => frame_ops::open(request),
+        "offer" => frame_ops::offer(request),
+        "offer_to" => frame_ops::offer_to(request),
+        "list" => list_ops::list(request),
+        _ => Err(Fault::NoOperation),
     }
-
-    fn with(self, is_same: bool) -> Tally {
-        Tally {
-            lines: one_more(self.lines),
-            differ: if is_same {
-                self.differ
-            } else {
-                one_more(self.differ)
-            },
-        }
-    }
-
-    pub(crate) fn print<P: Print>(self, rt: &P, name: &str) -> Result<()> {
-        let lines = self.lines;
-        let differ = self.differ;
-        println!(rt; "{name}: {lines} lines, {differ} differ")
-    }
-}
-
-// One more, where that fits: no file has so many lines.
-fn one_more(n: u64) -> u64 {
-    if n < u64::MAX { n + 1 } else { n }
-}
-
-pub(crate) fn print<P: Print>(rt: &P, text: &[u8]) -> Result<()> {
-    rt.write_all(text)
-}
-
-// Prints a line that differs, and below it what was found; returns that it is not as recorded.
-fn differs<P: Print>(rt: &P, line: &[u8], label: &[u8], found: &[u8]) -> Result<bool> {
-    print(rt, b"differs: ")?;
-    print(rt, line)?;
-    print(rt, b"\n    ")?;
-    print(rt, label)?;
-    print(rt, found)?;
-    print(rt, b"\n")?;
-    Ok(false)
-}
-
-fn compare<P: Print>(rt: &P, line: &[u8], recorded: &[u8], found: &[u8]) -> Result<bool> {
-    if same(recorded, found) {
-        return Ok(true);
-    }
-    differs(rt, line, b"answer: ", found)
-}
-
-// The place of the first ` = `, or the line's length.
-fn find_equals(line: &[u8]) -> usize {
-    let mut i = 0;
-    while i < line.len() {
-        if same(front(after(line, i), 3), b" = ") {
-            return i;
-        }
-        i += 1;
-    }
-    i
-}
-
-fn is_skipped(line: &[u8]) -> bool {
-    if line.len() == 0 {
-        return true;
-    }
-    line[0] == b'#'
-}
-
-// The operations of each kind, the simplest first.
-fn perform(request: &[u8], bytes: &mut [u8], out: &mut [u8], answer: &mut [u8]) -> Outcome {
-    let o = varint_ops::perform(request, bytes, out, answer);
-    if o.is_known() {
-        return o;
-    }
-    let o = decode_ops::perform(request, bytes, out, answer);
-    if o.is_known() {
-        return o;
-    }
-    encode_ops::perform(request, bytes, out, answer)
-}
-
-// Is the answer to the line's request the recorded one? Where it is not, the line is printed.
-fn is_as_recorded<P: Print>(
-    rt: &P,
-    line: &[u8],
-    bytes: &mut [u8],
-    out: &mut [u8],
-    answer: &mut [u8],
-) -> Result<bool> {
-    let middle = find_equals(line);
-    if middle == line.len() {
-        return differs(rt, line, b"no answer is recorded", b"");
-    }
-    match perform(front(line, middle), bytes, out, answer) {
-        Outcome::Answered(w) => compare(rt, line, after(after(line, middle), 3), w.text(answer)),
-        Outcome::Unknown => differs(rt, line, b"no such operation", b""),
-        Outcome::Malformed => differs(rt, line, b"an argument is malformed", b""),
-    }
-}
-
-// Replays a line that has a request, and counts it.
-pub(crate) fn replay_line<P: Print>(
-    rt: &P,
-    tally: Tally,
-    line: &[u8],
-    bytes: &mut [u8],
-    out: &mut [u8],
-    answer: &mut [u8],
-) -> Result<Tally> {
-    if is_skipped(line) {
-        return Ok(tally);
-    }
-    let is_same = is_as_recorded(rt, line, bytes, out, answer)?;
-    Ok(tally.with(is_same))
-}
-
-// A line that does not fit its buffer differs, whatever its request.
-pub(crate) fn refuse_long<P: Print>(rt: &P, tally: Tally, line: &[u8]) -> Result<Tally> {
-    let is_same = differs(rt, line, b"the line is too long", b"")?;
-    Ok(tally.with(is_same))
 }

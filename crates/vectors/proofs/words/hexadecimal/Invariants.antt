@@ -1,9 +1,0 @@
--- The pair stays within the text.
-use Rattle.std.proofs.Common.{◌-◌, ◌≤◌}
-use Rattle.vectors.proofs.words.hexadecimal.Given as goal
-
-abbrev pub invariant-loop-i : goal.invariant-loop-i
-invariant-loop-i l = l.i ≤ l.count
-
-abbrev pub decreases-loop-i : goal.decreases-loop-i
-decreases-loop-i l = l.count - l.i

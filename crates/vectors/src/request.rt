@@ -1,0 +1,125 @@
+// A request: the name of an operation, and for each argument a space and the argument's word.
+use crate::fault::Fault;
+use hex::FromHexError;
+use std::alloc::{AllocError, Global};
+use std::str::{FromStr, Split};
+
+// A call is lent so many bytes at most.
+const MAX_BYTES: usize = 16384;
+
+// And so many numbers, which are more than the 4,096 ids that a fetch may have.
+const MAX_NUMBERS: usize = 4100;
+
+#[derive(Drop)]
+pub struct Request<'a> {
+    pub alloc: Global,
+    pub name: &'a str,
+    words: Split<'a, char>,
+}
+
+// Digits, of a number below 0 with a `-` before them; no `+`, and 0 has no sign.
+fn parse<T: FromStr>(word: &str) -> Result<T, Fault>
+where
+    T::Err: Drop,
+{
+    let is_minus_zero = word.starts_with('-') && word.chars().skip(1).all(|c| c == '0');
+    if word.starts_with('+') || is_minus_zero {
+        return Err(Fault::Malformed);
+    }
+    word.parse().map_err(|_| Fault::Malformed)
+}
+
+impl<'a> Request<'a> {
+    pub fn new(alloc: Global, text: &'a str) -> Request<'a> {
+        let mut words = text.split(' ');
+        let name = words.next().unwrap_or("");
+        Request { alloc, name, words }
+    }
+
+    fn word(&mut self) -> Result<&'a str, Fault> {
+        self.words.next().ok_or(Fault::Malformed)
+    }
+
+    pub fn number<T: FromStr>(&mut self) -> Result<T, Fault>
+    where
+        T::Err: Drop,
+    {
+        parse(self.word()?)
+    }
+
+    pub fn numbers<const N: usize>(&mut self) -> Result<[u64; N], Fault> {
+        let mut numbers = [0; N];
+        for n in &mut numbers {
+            *n = self.number()?;
+        }
+        Ok(numbers)
+    }
+
+    // A count, and as many numbers.
+    pub fn counted_numbers(&mut self) -> Result<Vec<u64>, Fault> {
+        let count = self.length(MAX_NUMBERS)?;
+        let mut numbers = Vec::new(self.alloc);
+        for _ in 0..count {
+            numbers.push(self.number()?)?;
+        }
+        Ok(numbers)
+    }
+
+    // The numbers up to the request's end.
+    pub fn last_numbers(&mut self) -> Result<Vec<u64>, Fault> {
+        let mut numbers = Vec::new(self.alloc);
+        for word in self.words.by_ref().take(MAX_NUMBERS) {
+            numbers.push(parse(word)?)?;
+        }
+        Ok(numbers)
+    }
+
+    // Two digits in lower case for each byte, and `-` for no bytes.
+    pub fn bytes(&mut self) -> Result<Vec<u8>, Fault> {
+        match self.word()? {
+            "-" => Ok(Vec::new(self.alloc)),
+            "" => Err(Fault::Malformed),
+            digits if digits.chars().any(|c| c.is_ascii_uppercase()) => Err(Fault::Malformed),
+            digits => hex::decode(self.alloc, digits).map_err(|e| match e {
+                FromHexError::OutOfMemory => Fault::OutOfMemory(AllocError),
+                _ => Fault::Malformed,
+            }),
+        }
+    }
+
+    // Bytes, and zeros behind them.
+    pub fn array<const N: usize>(&mut self) -> Result<[u8; N], Fault> {
+        let bytes = self.bytes()?;
+        let mut array = [0; N];
+        let front = array.get_mut(..bytes.len()).ok_or(Fault::Malformed)?;
+        front.copy_from_slice(&bytes);
+        Ok(array)
+    }
+
+    fn length(&mut self, max: usize) -> Result<usize, Fault> {
+        let len = self.number()?;
+        if len > max {
+            return Err(Fault::Malformed);
+        }
+        Ok(len)
+    }
+
+    // Bytes to lend, as many as a word says. Each is A5, so that an answer shows which of them a call left alone.
+    pub fn room(&mut self) -> Result<Vec<u8>, Fault> {
+        let len = self.length(MAX_BYTES)?;
+        Ok(vec![in self.alloc; 0xa5; len]?)
+    }
+
+    // Numbers to lend, of which each byte is A5 too.
+    pub fn number_room(&mut self) -> Result<Vec<u64>, Fault> {
+        let len = self.length(MAX_NUMBERS)?;
+        Ok(vec![in self.alloc; 0xa5a5_a5a5_a5a5_a5a5; len]?)
+    }
+
+    pub fn end(&mut self) -> Result<(), Fault> {
+        match self.words.next() {
+            Some(_) => Err(Fault::Malformed),
+            None => Ok(()),
+        }
+    }
+}
