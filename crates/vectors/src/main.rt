@@ -28,16 +28,18 @@ fn replay_file<R: Files + Print + AllocGlobal>(rt: &R, name: &str) -> Result<()>
     let alloc = rt.alloc();
     let mut count = 0u64;
     let mut differ = 0u64;
-    for line in BufReader::new(alloc, file)?.lines(alloc) {
+    for line in BufReader::new(alloc, file)?.split(alloc, b'\n') {
         let line = line?;
-        if line.is_empty() || line.starts_with('#') {
+        if line.is_empty() || line.starts_with(b"#") {
             continue;
         }
         count = count.saturating_add(1);
         if let Err(fault) = replay_line(alloc, &line) {
             differ = differ.saturating_add(1);
             let shown = line.get(..MAX_LINE).unwrap_or(&line);
-            println!(rt; "differs: {shown}\n    {fault}")?;
+            print!(rt; "differs: ")?;
+            rt.write_all(shown)?;
+            println!(rt; "\n    {fault}")?;
         }
     }
     println!(rt; "{name}: {count} lines, {differ} differ")

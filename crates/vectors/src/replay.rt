@@ -10,10 +10,12 @@ use varint::{fixed, signed, text};
 pub const MAX_LINE: usize = 16384;
 
 // Replays a line that has a request; an answer other than the recorded one is an error too.
-pub fn replay_line(alloc: Global, line: &str) -> Result<(), Fault> {
+pub fn replay_line(alloc: Global, line: &[u8]) -> Result<(), Fault> {
     if line.len() > MAX_LINE {
         return Err(Fault::TooLong);
     }
+    // Bytes that are no UTF-8 become a letter that stands in no request and no answer.
+    let line = String::from_utf8_lossy(alloc, line)?;
     let (request, recorded) = line.split_once(" = ").ok_or(Fault::NoAnswer)?;
     let mut request = Request::new(alloc, request);
     let answer = perform(&mut request)?;
