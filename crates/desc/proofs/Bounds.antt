@@ -17,6 +17,7 @@ use Rattle.desc.proofs.HeadLaws.{leaf_inside, branch_inside, label_inside}
 use Rattle.desc.proofs.MeasureLaws.{walked_of}
 use Rattle.desc.proofs.ReadInduction.{Steps, desc_as}
 use Rattle.std.specs.Prelude.{Ok, Err}
+use Rattle.varint.proofs.Basics.{never}
 
 module _ (check : Bool) (limit : ℕ) (s : List ℕ) where
   -- a descriptor, or parts of one, read from a place inside
@@ -73,4 +74,4 @@ measured_bounds check limit depth s at q t m h e = on (desc check limit depth s 
         let w₁ = w.1 in
         let w₂ = w.2 in
         (omega arith, omega arith)
-    on (Err r) i g = let z : ◌≡◌ {A = ℕ} 0 1 = cc in absurd (omega arith)
+    on (Err r) i g = never cc

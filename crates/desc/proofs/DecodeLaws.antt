@@ -23,17 +23,18 @@ use Rattle.desc.proofs.LayoutLaws.{length_placed}
 use Rattle.desc.proofs.MeasureLaws.{walked_of}
 use Rattle.desc.proofs.SkimLaws.{desc_skims}
 use Rattle.std.specs.Prelude.{Ok, Err, Result}
+use Rattle.varint.proofs.Basics.{never}
 
 -- where the payload is not too large
 module _ (tx rs nd : List ℕ) where
   settle_bad : (D : Got (Tree (List ℕ))) (e : Refusal) → measured D ≡ Err e → kept_desc e tx rs nd ≡ settled_desc D tx rs nd
   unfolding measured settled_desc
   settle_bad (Err x) e h = let y : e ≡ x = cc in rw y refl
-  settle_bad (Ok (tr, o)) e h = let z : ◌≡◌ {A = ℕ} 0 1 = cc in absurd (omega arith)
+  settle_bad (Ok (tr, o)) e h = never cc
 
   settle_text : (D : Got (Tree (List ℕ))) (q t m : ℕ) → measured D ≡ Ok (walked_to q t m) → length tx < t → kept_desc (TooSmall Text t) tx rs nd ≡ settled_desc D tx rs nd
   unfolding measured settled_desc
-  settle_text (Err x) q t m h l = let z : ◌≡◌ {A = ℕ} 0 1 = cc in absurd (omega arith)
+  settle_text (Err x) q t m h l = never cc
   settle_text (Ok (tr, o)) q t m h l =
       let e = sym (walked_of h).1 in
       let b : ltb (length tx) (length (texts tr)) ≡ true = lt-ltb (length tx) (length (texts tr)) (omega arith) in
@@ -42,7 +43,7 @@ module _ (tx rs nd : List ℕ) where
   settle_nodes : (D : Got (Tree (List ℕ))) (q t m : ℕ) → measured D ≡ Ok (walked_to q t m) → t ≤ length tx → length nd < m * width
       → kept_desc (TooSmall Nodes (m * width)) tx rs nd ≡ settled_desc D tx rs nd
   unfolding measured settled_desc
-  settle_nodes (Err x) q t m h l k = let z : ◌≡◌ {A = ℕ} 0 1 = cc in absurd (omega arith)
+  settle_nodes (Err x) q t m h l k = never cc
   settle_nodes (Ok (tr, o)) q t m h l k =
       let w = walked_of h in
       let e = sym w.1 in
@@ -56,7 +57,7 @@ module _ (tx rs nd : List ℕ) where
       → Agrees (outcome E tx 0 nd 0 (0, 0) 0) end r tx' nd' → tx₁ ≡ clear_from tx' t → rs₁ ≡ clear_from rs 0 → nd₁ ≡ clear_from nd' (m * width)
       → record { answer = Ok q; text = tx₁; rows = rs₁; nodes = nd₁ } ≡ settled_desc D tx rs nd
   unfolding measured settled_desc stored_as Agrees outcome
-  settle_done (Err x) E same q t m end r tx' nd' tx₁ rs₁ nd₁ h l k w z₁ z₂ z₃ = let z : ◌≡◌ {A = ℕ} 0 1 = cc in absurd (omega arith)
+  settle_done (Err x) E same q t m end r tx' nd' tx₁ rs₁ nd₁ h l k w z₁ z₂ z₃ = never cc
   settle_done (Ok (tr, o)) E same q t m end r tx' nd' tx₁ rs₁ nd₁ h l k w z₁ z₂ z₃ =
       let p = walked_of h in
       let e = sym p.1 in

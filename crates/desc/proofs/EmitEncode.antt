@@ -12,7 +12,7 @@ use Rattle.varint.specs.declared.error.Buffer.TheVariants.{Out}
 use Rattle.varint.specs.declared.error.Refusal.{Refusal}
 use Rattle.varint.specs.declared.error.Refusal.TheVariants.{BlockTooLarge, TooSmall}
 use Rattle.varint.proofs.OutLaws.{out_refused, out_wrote}
-use Rattle.desc.specs.declared.write.Emitted.{Emitted}
+use Rattle.desc.specs.Emitting.{Pen}
 use Rattle.desc.specs.Inner.Emission.{emission, told}
 use Rattle.desc.specs.Encoding.{held_in, sent_desc, encode_desc}
 use Rattle.desc.specs.Printing.{print}
@@ -54,9 +54,9 @@ module _ (max limit : ℕ) (tx nd d : List ℕ) where
       pub encode_small : length d < a → record { answer = Err (TooSmall Out a); out = d } ≡ encode_desc max limit tx nd d
       encode_small h = fits (Err (TooSmall Out a)) d (out_refused d (print w.tree) a size_is h)
 
-      pub encode_done : (R : Option Emitted) (d₁ d₂ : List ℕ) → length d < 18446744073709551616 → a ≤ length d
-          → told R d₁ ≡ emission tx (table limit nd 0 0) (record { out = d; place = 0 }) → d₂ ≡ clear_from d₁ a
+      pub encode_done : (R : Option ℕ) (s₁ : Pen) (d₂ : List ℕ) → length d < 18446744073709551616 → a ≤ length d
+          → told R s₁ ≡ emission tx (table limit nd 0 0) (record { out = d; place = 0 }) → d₂ ≡ clear_from s₁.out a
           → record { answer = Ok a; out = d₂ } ≡ encode_desc max limit tx nd d
-      encode_done R d₁ d₂ l h is c =
+      encode_done R s₁ d₂ l h is c =
           let r : Roomy (record { out = d; place = 0 }) = record { short = omega arith; inside = omega arith } in
-          fits (Ok a) d₂ (out_wrote d (print w.tree) a size_is h (whole_stored w R d₁ (record { out = d; place = 0 }) r is) c)
+          fits (Ok a) d₂ (out_wrote d (print w.tree) a size_is h (whole_stored w R (record { out = d; place = 0 }) s₁ r is) c)

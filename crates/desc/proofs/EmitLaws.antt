@@ -11,9 +11,8 @@ use Rattle.varint.specs.Choice.{pick}
 use Rattle.varint.specs.Got.{Got, then}
 use Rattle.varint.specs.declared.error.Fault.TheVariants.{Layout}
 use Rattle.varint.specs.declared.error.Refusal.TheVariants.{BadMessage}
-use Rattle.varint.proofs.Basics.{test}
-use Rattle.desc.specs.declared.write.Emitted.{Emitted}
-use Rattle.desc.specs.Emitting.{Pen, put_number, put_where, put_label, put_tree, put_kids, emitted_to}
+use Rattle.varint.proofs.Basics.{test, never}
+use Rattle.desc.specs.Emitting.{Pen, put_number, put_where, put_label, put_tree, put_kids}
 use Rattle.desc.specs.Inner.Emission.{Emission, wrong, done, emission, told}
 use Rattle.desc.specs.Layout.{NameSpan}
 use Rattle.desc.specs.Table.{cell, node_fits, is_branch, kids_at, closed_at, table}
@@ -44,23 +43,23 @@ module _ (tx : List ℕ) (tag : ℕ) (name : NameSpan) (d : ℕ) (s : Pen) where
       let p : m ≡ e = cc in
       let q : s₂ ≡ put_tree tx t (put_label tx tag name d s) = cc in
       rw (p, q) (more_law t (K e))
-  first_done (Err e) K m s₂ h = let z : ◌≡◌ {A = ℕ} 0 1 = cc in absurd (omega arith)
+  first_done (Err e) K m s₂ h = never cc
 
   first_wrong : (D : Got (Tree NameSpan)) (K : ℕ → Got (Kids NameSpan)) → wrong ≡ emission tx D (put_label tx tag name d s) → kids_emission tx tag (first D K) s ≡ wrong
   unfolding emission kids_emission
-  first_wrong (Ok (t, e)) K h = let z : ◌≡◌ {A = ℕ} 0 1 = cc in absurd (omega arith)
+  first_wrong (Ok (t, e)) K h = never cc
   first_wrong (Err e) K h = refl
 
-module _ (r : ℕ → ℕ → Got (Tree NameSpan)) (tx nd : List ℕ) (tag count i m : ℕ) (s s₁ : Pen) (R : Option Emitted) (o : List ℕ) (less : i < count)
+module _ (r : ℕ → ℕ → Got (Tree NameSpan)) (tx nd : List ℕ) (tag count i m : ℕ) (s s₁ : Pen) (R : Option ℕ) (o : Pen) (less : i < count)
     (label : s₁ ≡ put_label tx tag (cell nd m 1, cell nd m 2) (cell nd m 3) s) (is : told R o ≡ emission tx (r m tag) s₁) where
-  pub turn_done : (m₂ a₂ : ℕ) → R ≡ Some (emitted_to m₂ a₂)
-      → kids_emission tx tag (kids_at r nd tag (count - i) m) s ≡ kids_emission tx tag (kids_at r nd tag (count - (i + 1)) m₂) (record { out = o; place = a₂ })
+  pub turn_done : (m₂ : ℕ) → R ≡ Some m₂
+      → kids_emission tx tag (kids_at r nd tag (count - i) m) s ≡ kids_emission tx tag (kids_at r nd tag (count - (i + 1)) m₂) o
   unfolding told kids_at
-  turn_done m₂ a₂ h =
+  turn_done m₂ h =
       let e : count - i ≡ suc (count - (i + 1)) = omega arith in
       rw e
-      (first_done tx tag (cell nd m 1, cell nd m 2) (cell nd m 3) s (r m tag) (kids_at r nd tag (count - (i + 1))) m₂ (record { out = o; place = a₂ })
-      (ap (λ (x : Option Emitted). told x o) (sym h) ∙ is ∙ ap (emission tx (r m tag)) label))
+      (first_done tx tag (cell nd m 1, cell nd m 2) (cell nd m 3) s (r m tag) (kids_at r nd tag (count - (i + 1))) m₂ o
+      (ap (λ (x : Option ℕ). told x o) (sym h) ∙ is ∙ ap (emission tx (r m tag)) label))
 
   pub turn_wrong : R ≡ None → kids_emission tx tag (kids_at r nd tag (count - i) m) s ≡ wrong
   unfolding told kids_at
@@ -68,7 +67,7 @@ module _ (r : ℕ → ℕ → Got (Tree NameSpan)) (tx nd : List ℕ) (tag count
       let e : count - i ≡ suc (count - (i + 1)) = omega arith in
       rw e
       (first_wrong tx tag (cell nd m 1, cell nd m 2) (cell nd m 3) s (r m tag) (kids_at r nd tag (count - (i + 1)))
-      (ap (λ (x : Option Emitted). told x o) (sym h) ∙ is ∙ ap (emission tx (r m tag)) label))
+      (ap (λ (x : Option ℕ). told x o) (sym h) ∙ is ∙ ap (emission tx (r m tag)) label))
 
 -- a child that is not there
 table_outside : (d : ℕ) (nd : List ℕ) (m tag : ℕ) → length nd / 7 ≤ m → table d nd m tag ≡ Err (BadMessage Layout)
@@ -96,7 +95,7 @@ deeper (suc d) nd n parent h = let e : suc d - 1 ≡ d = omega arith in rw e ref
 
 kids_wrong : (tx : List ℕ) (tag end : ℕ) (K : Got (Kids NameSpan)) (s s₁ : Pen) → kids_emission tx tag K s₁ ≡ wrong → wrong ≡ emission tx (closed_at tag end K) s
 unfolding kids_emission emission
-kids_wrong tx tag end (Ok (ks, m)) s s₁ h = let z : ◌≡◌ {A = ℕ} 0 1 = cc in absurd (omega arith)
+kids_wrong tx tag end (Ok (ks, m)) s s₁ h = never cc
 kids_wrong tx tag end (Err e) s s₁ h = refl
 
 kids_open : (tx : List ℕ) (tag end : ℕ) (K : Got (Kids NameSpan)) (m : ℕ) (s s₁ s₂ : Pen) → kids_emission tx tag K s₁ ≡ done m s₂ → (end ≡ m → ⊥)
@@ -113,7 +112,7 @@ kids_closed tx tag end count (Ok (ks, e)) m s s₁ s₂ c h q w =
     let p : m ≡ e = cc in
     let f : put_kids tx tag ks s₁ ≡ s₂ = cc in
     rw (eq-eqb end e (q ∙ p), c ks e refl, ← w, f, p)
-kids_closed tx tag end count (Err x) m s s₁ s₂ c h q w = let z : ◌≡◌ {A = ℕ} 0 1 = cc in absurd (omega arith)
+kids_closed tx tag end count (Err x) m s s₁ s₂ c h q w = never cc
 
 -- The ways out of a node
 
@@ -132,7 +131,7 @@ module _ (nd : List ℕ) (d n parent : ℕ) (z : d ≡ 0 → ⊥) {fits : Bool} 
     unfolding is_branch
     node_branch b = rw (deeper d nd n parent z, ← test, f, ← test₂, b)
 
-module _ (tx nd : List ℕ) (d n parent : ℕ) (s : Pen) (o : List ℕ) where
+module _ (tx nd : List ℕ) (d n parent : ℕ) (s o : Pen) where
   pub emit_deep : d ≡ 0 → told None o ≡ emission tx (table d nd n parent) s
   unfolding told emission table
   emit_deep z = rw z
@@ -141,10 +140,10 @@ module _ (tx nd : List ℕ) (d n parent : ℕ) (s : Pen) (o : List ℕ) where
   unfolding told emission
   emit_unfit z test f = rw (node_unfit nd d n parent z test f)
 
-  pub emit_leaf : (tag p place : ℕ) → table d nd n parent ≡ Ok (leaf tag p, n + 1)
-      → record { out = o; place = place } ≡ put_where (eqb tag 2) p (put_number tag s) → told (Some (emitted_to (n + 1) place)) o ≡ emission tx (table d nd n parent) s
+  pub emit_leaf : (tag p : ℕ) → table d nd n parent ≡ Ok (leaf tag p, n + 1)
+      → o ≡ put_where (eqb tag 2) p (put_number tag s) → told (Some (n + 1)) o ≡ emission tx (table d nd n parent) s
   unfolding told emission put_tree
-  emit_leaf tag p place is w = rw (is, ← w)
+  emit_leaf tag p is w = rw (is, ← w)
 
   module _ (tag count : ℕ) (is : table d nd n parent ≡ closed_at tag (cell nd n 6) (kids_at (table (d - 1) nd) nd tag count (n + 1))) (s₁ : Pen) where
     abbrev kids : Got (Kids NameSpan)
@@ -154,26 +153,26 @@ module _ (tx nd : List ℕ) (d n parent : ℕ) (s : Pen) (o : List ℕ) where
     unfolding told
     emit_stopped h = rw is (kids_wrong tx tag (cell nd n 6) kids s s₁ h)
 
-    module _ (i m a : ℕ) (past : count ≤ i)
-        (inv : kids_emission tx tag kids s₁ ≡ kids_emission tx tag (kids_at (table (d - 1) nd) nd tag (count - i) m) (record { out = o; place = a })) where
-      ended : kids_emission tx tag kids s₁ ≡ done m (record { out = o; place = a })
+    module _ (i m : ℕ) (past : count ≤ i)
+        (inv : kids_emission tx tag kids s₁ ≡ kids_emission tx tag (kids_at (table (d - 1) nd) nd tag (count - i) m) o) where
+      ended : kids_emission tx tag kids s₁ ≡ done m o
       unfolding kids_emission kids_at put_kids
       ended = let e : count - i ≡ 0 = omega arith in inv ∙ rw e
 
       emit_open : (cell nd n 6 ≡ m → ⊥) → told None o ≡ emission tx (table d nd n parent) s
       unfolding told
-      emit_open q = rw is (kids_open tx tag (cell nd n 6) kids m s s₁ (record { out = o; place = a }) ended q)
+      emit_open q = rw is (kids_open tx tag (cell nd n 6) kids m s s₁ o ended q)
 
-      emit_branch : cell nd n 6 ≡ m → s₁ ≡ put_where true count (put_number tag s) → told (Some (emitted_to m a)) o ≡ emission tx (table d nd n parent) s
-      unfolding told put_where
+      emit_branch : cell nd n 6 ≡ m → s₁ ≡ put_number count (put_number tag s) → told (Some m) o ≡ emission tx (table d nd n parent) s
+      unfolding told
       emit_branch q w =
           rw is
-          (kids_closed tx tag (cell nd n 6) count kids m s s₁ (record { out = o; place = a })
+          (kids_closed tx tag (cell nd n 6) count kids m s s₁ o
           (λ ks e h. kid_count_lem (table (d - 1) nd) nd tag count (n + 1) e ks h)
           ended q w)
 
       -- by the comparison of its end
-      pub emit_closed : (R : Option Emitted) → s₁ ≡ put_where true count (put_number tag s) → R ≡ pick (eqb (cell nd n 6) m) (Some (emitted_to m a)) None
+      pub emit_closed : (R : Option ℕ) → s₁ ≡ put_number count (put_number tag s) → R ≡ pick (eqb (cell nd n 6) m) (Some m) None
           → told R o ≡ emission tx (table d nd n parent) s
       emit_closed R w h =
           test (eqb (cell nd n 6) m)

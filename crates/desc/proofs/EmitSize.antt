@@ -10,13 +10,13 @@ use Rattle.varint.specs.Choice.{pick}
 use Rattle.varint.specs.Got.{Got}
 use Rattle.varint.specs.Leb128.{put_u64}
 use Rattle.varint.specs.Outs.{declared}
-use Rattle.desc.specs.declared.write.Emitted.{Emitted}
-use Rattle.desc.specs.Emitting.{Pen, put_bytes, put_number, put_where, put_name, put_label, put_tree, put_kids, span_size, kids_span, sized}
+use Rattle.desc.specs.Emitting.{Pen, put_bytes, put_number, put_where, put_name, put_label, put_tree, put_kids, span_size, kids_span, sized, emitted_to}
 use Rattle.desc.specs.Inner.Emission.{emission, told}
 use Rattle.desc.specs.Layout.{NameSpan}
 use Rattle.desc.specs.Trees.{Tree, leaf, branch, Kids, none, more, kid_count}
 use Rattle.desc.proofs.EmitPrint.{last}
-use Rattle.std.specs.Prelude.{Ok, Err, Some, None, Option}
+use Rattle.std.specs.Prelude.{Ok, Err, Some, None}
+use Rattle.varint.proofs.Basics.{never}
 
 -- the place was p, and moved on by n
 Moved : ℕ → ℕ → Pen → Type 0
@@ -83,15 +83,18 @@ from_place tx t out at h =
     tree_moved at tx t 0 (record { out = out; place = at }) (omega arith) ∙ ap declared e
 
 -- what a writer that stores nowhere tells
-pub size_told : (tx : List ℕ) (D : Got (Tree NameSpan)) (out : List ℕ) (R : Option Emitted) (o : List ℕ)
-    → told R o ≡ emission tx D (record { out = out; place = 0 }) → R ≡ sized D
+pub size_told : (tx : List ℕ) (D : Got (Tree NameSpan)) (out : List ℕ) (m : ℕ) (s : Pen) → told (Some m) s ≡ emission tx D (record { out = out; place = 0 })
+    → Some (emitted_to m s.place) ≡ sized D
 unfolding told emission sized
-size_told tx (Ok (t, e)) out (Some w) o h =
-    let p : w.next ≡ e = cc in
-    let q : record { out = o; place = w.place } ≡ put_tree tx t (record { out = out; place = 0 }) = cc in
+size_told tx (Ok (t, e)) out m s h =
+    let p : m ≡ e = cc in
+    let q : s ≡ put_tree tx t (record { out = out; place = 0 }) = cc in
     let z : 0 + span_size t ≡ span_size t = omega arith in
-    let m : w.place ≡ declared (span_size t) = ap (λ (s : Pen). s.place) q ∙ from_place tx t out 0 (omega arith) ∙ ap declared z in
-    rw (p, m)
-size_told tx (Ok (t, e)) out None o h = let z : ◌≡◌ {A = ℕ} 0 1 = cc in absurd (omega arith)
-size_told tx (Err e) out (Some w) o h = let z : ◌≡◌ {A = ℕ} 0 1 = cc in absurd (omega arith)
-size_told tx (Err e) out None o h = refl
+    let l : s.place ≡ declared (span_size t) = ap (λ (s : Pen). s.place) q ∙ from_place tx t out 0 (omega arith) ∙ ap declared z in
+    rw (p, l)
+size_told tx (Err e) out m s h = never cc
+
+pub size_wrong : (tx : List ℕ) (D : Got (Tree NameSpan)) (s s₁ : Pen) → told None s₁ ≡ emission tx D s → None ≡ sized D
+unfolding told emission sized
+size_wrong tx (Ok (t, e)) s s₁ h = never cc
+size_wrong tx (Err e) s s₁ h = refl

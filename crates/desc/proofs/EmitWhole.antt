@@ -2,7 +2,6 @@
 use mathlib.Core.Path.{◌≡◌, refl, sym, ap, ◌∙◌}
 use mathlib.Core.List.{List}
 use Prim.Native.Nat.{ℕ, ◌+◌, ◌-◌}
-use native.Mathlib.Omega.{arith}
 use lib.ListN.{length}
 use lib.Seq.{sets}
 use Rattle.varint.specs.Got.{Got, got}
@@ -24,6 +23,7 @@ use Rattle.desc.proofs.EmitSpan.{span_print}
 use Rattle.desc.proofs.Emitteds.{emitted_of}
 use Rattle.desc.proofs.TableNames.{table_bad, table_verdict}
 use Rattle.std.specs.Prelude.{Ok, Err, Result, Some, None, Option}
+use Rattle.varint.proofs.Basics.{never}
 
 -- The tree that the table at node n and the text hold, how many bytes it has, and that these are what is written of it.
 pub record Whole (tx : List ℕ) (D : Got (Tree NameSpan)) (next place : ℕ) : Type 0 where
@@ -41,17 +41,17 @@ whole_of tx t e (held u) g v =
       size = ap declared (span_print tx t u g);
       puts = λ s h. ap (done e) (put_print tx t u s g h);
     }
-whole_of tx t e (lacks x) g v = let z : ◌≡◌ {A = ℕ} 0 1 = cc in absurd (omega arith)
+whole_of tx t e (lacks x) g v = never cc
 
 pub refused_of : {A : Type 0} (H : Held A) (e : Refusal) → verdict H ≡ Err e → H ≡ lacks e
 unfolding verdict
-refused_of (held a) e h = let z : ◌≡◌ {A = ℕ} 0 1 = cc in absurd (omega arith)
+refused_of (held a) e h = never cc
 refused_of (lacks x) e h = cc
 
 module _ (tx : List ℕ) where
   layout_of : (D : Got (Tree NameSpan)) → ((x : Refusal) → D ≡ Err x → x ≡ BadMessage Layout) → sized D ≡ None → held_in D tx ≡ lacks (BadMessage Layout)
   unfolding sized held_in
-  layout_of (Ok (t, e)) h w = let z : ◌≡◌ {A = ℕ} 0 1 = cc in absurd (omega arith)
+  layout_of (Ok (t, e)) h w = never cc
   layout_of (Err x) h w = ap lacks (h x refl)
 
   module _ (e a : ℕ) (v : Result (Unit {0}) Refusal) where
@@ -59,14 +59,14 @@ module _ (tx : List ℕ) where
         → held_in D tx ≡ lacks r
     unfolding sized held_in
     names_of (Ok (t, e₀)) r h w is = let p = emitted_of w in refused_of (gather tx t) r (sym (h t (ap (got t) p.0)) ∙ is)
-    names_of (Err x) r h w is = let z : ◌≡◌ {A = ℕ} 0 1 = cc in absurd (omega arith)
+    names_of (Err x) r h w is = never cc
 
     good_of : (D : Got (Tree NameSpan)) → ((t : Tree NameSpan) → D ≡ Ok (t, e) → v ≡ verdict (gather tx t)) → sized D ≡ Some (emitted_to e a) → v ≡ Ok tt → Whole tx D e a
     unfolding sized
     good_of (Ok (t, e₀)) h w is =
         let p = emitted_of w in
         rw (← p.1, ← p.0) (whole_of tx t e₀ (gather tx t) refl (sym (h t (ap (got t) p.0)) ∙ is))
-    good_of (Err x) h w is = let z : ◌≡◌ {A = ℕ} 0 1 = cc in absurd (omega arith)
+    good_of (Err x) h w is = never cc
 
 module _ (tx nd : List ℕ) (limit n : ℕ) (R : Option Emitted) (sizes : R ≡ sized (table limit nd n 0)) where
   -- the table is not laid out as one
@@ -86,12 +86,12 @@ module _ (tx nd : List ℕ) (limit n : ℕ) (R : Option Emitted) (sizes : R ≡ 
     whole h = good_of tx e a v (table limit nd n 0) verdict_is (sym sizes ∙ is) h
 
 -- the buffer after a tree was written
-told_out : (R : Option Emitted) (o : List ℕ) (e : ℕ) (s : Pen) → told R o ≡ done e s → o ≡ s.out
+told_out : (R : Option ℕ) (s₁ : Pen) (e : ℕ) (s : Pen) → told R s₁ ≡ done e s → s₁.out ≡ s.out
 unfolding told
-told_out (Some w) o e s h = let q : record { out = o; place = w.place } ≡ s = cc in ap (λ (k : Pen). k.out) q
-told_out None o e s h = let z : ◌≡◌ {A = ℕ} 0 1 = cc in absurd (omega arith)
+told_out (Some m) s₁ e s h = let q : s₁ ≡ s = cc in ap (λ (k : Pen). k.out) q
+told_out None s₁ e s h = never cc
 
 module _ {tx : List ℕ} {D : Got (Tree NameSpan)} {e a : ℕ} (w : Whole tx D e a) where
-  pub whole_stored : (R : Option Emitted) (o : List ℕ) (s : Pen) → Roomy s → told R o ≡ emission tx D s → o ≡ sets s.out s.place (print w.tree)
+  pub whole_stored : (R : Option ℕ) (s s₁ : Pen) → Roomy s → told R s₁ ≡ emission tx D s → s₁.out ≡ sets s.out s.place (print w.tree)
   unfolding put_bytes
-  whole_stored R o s r h = told_out R o e (put_bytes (print w.tree) s) (h ∙ w.puts s r)
+  whole_stored R s s₁ r h = told_out R s₁ e (put_bytes (print w.tree) s) (h ∙ w.puts s r)

@@ -3,11 +3,10 @@ use mathlib.Core.Bool.{false}
 use mathlib.Core.Path.{◌≡◌, refl}
 use mathlib.Core.List.{List}
 use Prim.Native.Nat.{ℕ, ◌+◌, ◌≤◌, ◌<◌}
-use native.Mathlib.Omega.{arith}
 use borrow.Author.Tests.{le-leb, lt-leb}
 use Rattle.varint.specs.Got.{Got}
 use Rattle.varint.specs.declared.error.Refusal.{Refusal}
-use Rattle.varint.proofs.Basics.{pick_same}
+use Rattle.varint.proofs.Basics.{pick_same, never}
 use Rattle.desc.specs.declared.Walked.{Walked}
 use Rattle.desc.specs.Decoding.{measured, stored_as, filled_by, fill_desc, walked_to}
 use Rattle.desc.specs.Reading.{desc}
@@ -19,12 +18,12 @@ module _ (tx : List ℕ) (t : ℕ) (nd : List ℕ) (n : ℕ) where
   none_stored : (D : Got (Tree (List ℕ))) (e : Refusal) → measured D ≡ Err e → filled_by D tx t nd n ≡ record { text = tx; nodes = nd }
   unfolding measured filled_by
   none_stored (Err x) e h = refl
-  none_stored (Ok (tr, q)) e h = let z : ◌≡◌ {A = ℕ} 0 1 = cc in absurd (omega arith)
+  none_stored (Ok (tr, q)) e h = never cc
 
   all_stored : (D : Got (Tree (List ℕ))) (q u m end : ℕ) (r : Result Walked Refusal) (tx' nd' : List ℕ) → measured D ≡ Ok (walked_to q u m)
       → Agrees (outcome D tx t nd n (0, 0) 0) end r tx' nd' → record { text = tx'; nodes = nd' } ≡ filled_by D tx t nd n
   unfolding measured filled_by stored_as Agrees outcome
-  all_stored (Err x) q u m end r tx' nd' h a = let z : ◌≡◌ {A = ℕ} 0 1 = cc in absurd (omega arith)
+  all_stored (Err x) q u m end r tx' nd' h a = never cc
   all_stored (Ok (tr, o)) q u m end r tx' nd' h a = rw (a.1, a.2) refl
 
   module _ (limit : ℕ) (s : List ℕ) (at : ℕ) where

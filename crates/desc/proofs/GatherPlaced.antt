@@ -55,17 +55,17 @@ gather_placed depth tr f pre post = tree_gathered tr depth (pre ++ (texts tr ++ 
 mutual
   unfolding placed Fine
 
-  tree_placed : (tr : Tree (List ℕ)) (Ok : List ℕ → Type 0) (depth t : ℕ) → Fine Ok depth tr → Fine (λ _. Unit) depth (placed tr t)
-  tree_placed (leaf tag p) Ok zero t f = absurd f
-  tree_placed (leaf tag p) Ok (suc depth) t f = f
-  tree_placed (branch tag ks) Ok zero t f = absurd f
-  tree_placed (branch tag ks) Ok (suc depth) t f = (f.0, rw (count_placed ks t) f.1, kids_placed ks Ok tag depth t f.2)
+  tree_placed : (tr : Tree (List ℕ)) (Good : List ℕ → Type 0) (depth t : ℕ) → Fine Good depth tr → Fine (λ _. Unit) depth (placed tr t)
+  tree_placed (leaf tag p) Good zero t f = absurd f
+  tree_placed (leaf tag p) Good (suc depth) t f = f
+  tree_placed (branch tag ks) Good zero t f = absurd f
+  tree_placed (branch tag ks) Good (suc depth) t f = (f.0, rw (count_placed ks t) f.1, kids_placed ks Good tag depth t f.2)
 
-  kids_placed : (ks : Kids (List ℕ)) (Ok : List ℕ → Type 0) (tag depth t : ℕ) → FineKids Ok tag depth ks
+  kids_placed : (ks : Kids (List ℕ)) (Good : List ℕ → Type 0) (tag depth t : ℕ) → FineKids Good tag depth ks
       → FineKids (λ _. Unit) tag depth (placed_kids ks t)
-  kids_placed none Ok tag depth t f = tt
-  kids_placed (more x d tr ks) Ok tag depth t f =
-      (tt, f.1, tree_placed tr Ok depth (t + length x) f.2, kids_placed ks Ok tag depth (t + length x + length (texts tr)) f.3)
+  kids_placed none Good tag depth t f = tt
+  kids_placed (more x d tr ks) Good tag depth t f =
+      (tt, f.1, tree_placed tr Good depth (t + length x) f.2, kids_placed ks Good tag depth (t + length x + length (texts tr)) f.3)
 
-pub placed_fine : (Ok : List ℕ → Type 0) (depth : ℕ) (tr : Tree (List ℕ)) (t : ℕ) → Fine Ok depth tr → Fine (λ _. Unit) depth (placed tr t)
-placed_fine Ok depth tr t f = tree_placed tr Ok depth t f
+pub placed_fine : (Good : List ℕ → Type 0) (depth : ℕ) (tr : Tree (List ℕ)) (t : ℕ) → Fine Good depth tr → Fine (λ _. Unit) depth (placed tr t)
+placed_fine Good depth tr t f = tree_placed tr Good depth t f

@@ -1,8 +1,8 @@
--- Steps of the walk that adds up lengths: how far a number, a tag and a name move a pen over no bytes.
+-- Steps of a writer whose place is past the buffer's end: how far a number, a tag and a name move its pen.
 use mathlib.Core.Bool.{Bool, true}
 use mathlib.Core.Path.{◌≡◌, sym, ap, ◌∙◌}
-use mathlib.Core.List.{List, []}
-use Prim.Native.Nat.{ℕ, ◌+◌, ◌<◌}
+use mathlib.Core.List.{List}
+use Prim.Native.Nat.{ℕ, ◌+◌, ◌≤◌, ◌<◌}
 use native.Mathlib.Omega.{arith}
 use lib.ListN.{length}
 use Rattle.varint.specs.Leb128.{put_u64}
@@ -11,25 +11,23 @@ use Rattle.varint.specs.Stores.{part}
 use Rattle.varint.proofs.PutLaws.{put_small}
 use Rattle.varint.proofs.StoreLaws.{sets_out}
 use Rattle.desc.specs.Emitting.{put_bytes, put_number, put_name}
-use Rattle.desc.specs.Inner.Emission.{nowhere}
 use Rattle.desc.specs.Layout.{NameSpan}
 use Rattle.desc.specs.Table.{cell, node_fits}
 use Rattle.desc.proofs.NodeFits.{fits}
 
-module _ (at r : ℕ) where
-  pub number_gauged : (v n : ℕ) → n ≡ length (put_u64 v) → r ≡ declared (at + n) → nowhere r ≡ put_number v (nowhere at)
+module _ (o : List ℕ) (at r : ℕ) (past : length o ≤ at) where
+  pub number_gauged : (v n : ℕ) → n ≡ length (put_u64 v) → r ≡ declared (at + n) → record { out = o; place = r } ≡ put_number v (record { out = o; place = at })
   unfolding put_number put_bytes
-  number_gauged v n e h =
-      λ i. record { out = sym (sets_out (put_u64 v) [] at (omega arith)) i; place = (h ∙ ap (λ (k : ℕ). declared (at + k)) e) i }
+  number_gauged v n e h = λ i. record { out = sym (sets_out (put_u64 v) o at past) i; place = (h ∙ ap (λ (k : ℕ). declared (at + k)) e) i }
 
   -- a tag has one byte
   pub tag_gauged : (nd : List ℕ) (n parent : ℕ) {t : Bool} → t ≡ node_fits nd n parent → t ≡ true → r ≡ declared (at + 1)
-      → nowhere r ≡ put_number (cell nd n 0) (nowhere at)
+      → record { out = o; place = r } ≡ put_number (cell nd n 0) (record { out = o; place = at })
   tag_gauged nd n parent test is h =
       let k = (fits nd n parent (sym test ∙ is)).known in
       let s : cell nd n 0 < 128 = omega arith in
       number_gauged (cell nd n 0) 1 (rw (put_small (cell nd n 0) s)) h
 
-  pub name_gauged : (name : NameSpan) → r ≡ declared (at + name.1) → nowhere r ≡ put_name [] name (nowhere at)
+  pub name_gauged : (tx : List ℕ) (name : NameSpan) → r ≡ declared (at + name.1) → record { out = o; place = r } ≡ put_name tx name (record { out = o; place = at })
   unfolding put_name
-  name_gauged name h = λ i. record { out = sym (sets_out (part [] name.0 name.1) [] at (omega arith)) i; place = h i }
+  name_gauged tx name h = λ i. record { out = sym (sets_out (part tx name.0 name.1) o at past) i; place = h i }

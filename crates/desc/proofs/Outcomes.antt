@@ -16,6 +16,7 @@ use Rattle.desc.specs.Inner.Walking.{Outcome, refused, done, outcome, Agrees}
 use Rattle.desc.proofs.LayoutLaws.{size_placed, kids_placed, count_placed, length_placed}
 use Rattle.desc.proofs.MeasureLaws.{walked_of}
 use Rattle.std.specs.Prelude.{Ok, Err, Result}
+use Rattle.varint.proofs.Basics.{never}
 
 -- what reading the children that are left does to the buffers, where i were read before them
 unfoldable pub outcome_kids : Got (Kids (List ℕ)) → (i : ℕ) (tx : List ℕ) (t : ℕ) (nd : List ℕ) (m : ℕ) → Outcome
@@ -90,7 +91,7 @@ pub agrees_read : (D : Got (Tree (List ℕ))) (tx : List ℕ) (t : ℕ) (nd : Li
     (d end : ℕ) (r : Result Walked Refusal) (tx' nd' : List ℕ) (q t' m : ℕ)
     → Agrees (outcome D tx t nd n name d) end r tx' nd' → r ≡ Ok (walked_to q t' m) → Facts D tx t nd n name d end tx' nd' q t' m
 unfolding Agrees outcome stored_as
-agrees_read (Err x) tx t nd n name d end r tx' nd' q t' m a h = let z : ◌≡◌ {A = ℕ} 0 1 = cc in absurd (omega arith)
+agrees_read (Err x) tx t nd n name d end r tx' nd' q t' m a h = never cc
 agrees_read (Ok (tr, o)) tx t nd n name d end r tx' nd' q t' m a h =
     let a₀ = a.0 in
     let a₃ = a.3 in

@@ -1,12 +1,10 @@
 -- Laws of storing one node.
-use mathlib.Core.Path.{◌≡◌, sym}
+use mathlib.Core.Path.{◌≡◌}
 use mathlib.Core.List.{List, [], ◌∷◌}
-use Prim.Native.Nat.{ℕ, suc, ◌+◌, ◌*◌, ◌≤◌}
+use Prim.Native.Nat.{ℕ, suc, ◌+◌}
 use native.Mathlib.Omega.{arith}
-use lib.ListN.{length, set}
+use lib.ListN.{set}
 use lib.Seq.{sets}
-use Rattle.varint.proofs.StoreLaws.{sets_out}
-use Rattle.desc.specs.Layout.{width}
 
 -- seven stores, one after another
 pub seven : (l l₁ l₂ l₃ l₄ l₅ l₆ l₇ : List ℕ) (k a b c d e f g : ℕ)
@@ -22,7 +20,3 @@ seven l l₁ l₂ l₃ l₄ l₅ l₆ l₇ k a b c d e f g h₁ h₂ h₃ h₄ h
     let k₅ : k + 5 ≡ suc (suc (suc (suc (suc k)))) = omega arith in
     let k₆ : k + 6 ≡ suc (suc (suc (suc (suc (suc k))))) = omega arith in
     cc
-
--- a node past the end is not stored
-pub row_past : (l : List ℕ) (n : ℕ) (x : List ℕ) → length l ≤ n → l ≡ sets l (n * width) x
-row_past l n x h = sym (sets_out x l (n * width) (omega arith))

@@ -3,7 +3,6 @@ use mathlib.Core.Bool.{true, false}
 use mathlib.Core.Path.{◌≡◌, refl}
 use mathlib.Core.List.{List}
 use Prim.Native.Nat.{ℕ}
-use native.Mathlib.Omega.{arith}
 use Rattle.varint.specs.Texts.{skim_text, get_name, span}
 use Rattle.varint.proofs.FormatParts.{get_name_lem}
 use Rattle.varint.proofs.TextLaws.{text_skims}
@@ -14,6 +13,7 @@ use Rattle.desc.proofs.ReadInduction.{Steps, desc_as}
 use Rattle.std.specs.Prelude.{Ok, Err}
 use Rattle.varint.specs.Got.{Got}
 use Rattle.varint.specs.declared.text.Span.{Span}
+use Rattle.varint.proofs.Basics.{never}
 
 pub name_skims : (s : List ℕ) (p start n q : ℕ) → get_name s p ≡ Ok (span start n, q) → skim_text s p ≡ Ok (span start n, q)
 name_skims s p start n q e = text_skims s p start n q (rw get_name_lem at e)
@@ -24,7 +24,7 @@ label_skims s tag p start n d q = go (get_name s p) refl
   where
     go : (x : Got Span) → get_name s p ≡ x → label_on s tag x ≡ Ok (named_label (span start n) d, q) → label_on s tag (skim_text s p) ≡ Ok (named_label (span start n) d, q)
     go (Ok (t, e)) i h = rw (name_skims s p t.start t.len e i) h
-    go (Err e) i h = let z : ◌≡◌ {A = ℕ} 0 1 = cc in absurd (omega arith)
+    go (Err e) i h = never cc
 
 skim_steps : (limit : ℕ) (s : List ℕ)
     → Steps true limit s (λ depth at tr q. desc false limit depth s at ≡ Ok (tr, q))

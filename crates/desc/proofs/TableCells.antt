@@ -1,11 +1,11 @@
--- Tests of one node: a place past the table reads as 0, and the parts of a node's test in another order.
+-- Tests of one node, their parts in another order, and of a name.
 use mathlib.Core.Bool.{Bool, true, false, ◌&&◌, ◌||◌}
 use mathlib.Core.Path.{◌≡◌, refl, sym, ◌∙◌}
 use mathlib.Core.Logic.{⊎_elim}
 use mathlib.Core.List.{List}
-use Prim.Native.Nat.{ℕ, ◌+◌, ◌*◌, ◌/◌, ◌≤◌, ◌<◌}
+use Prim.Native.Nat.{ℕ, ◌+◌, ◌/◌, ◌≤◌, ◌<◌}
 use lib.Dec.{leb, eqb}
-use lib.ListN.{length, get_or-eq_default}
+use lib.ListN.{length}
 use borrow.Author.Tests.{lt-ltb, le-ltb}
 use Rattle.varint.specs.Choice.{pick}
 use Rattle.varint.specs.Gathering.{name_held, text_held}
@@ -17,9 +17,6 @@ use Rattle.varint.proofs.Utf8Laws.{utf8_at_in}
 use Rattle.desc.specs.Emitting.{verdict}
 use Rattle.desc.specs.Table.{cell, root_name, discriminant_fits, predicate_fits, is_branch, leaf_fits, node_fits}
 use Rattle.std.specs.Prelude.{Ok, Err}
-
-pub cell_past : (nd : List ℕ) (n c : ℕ) → length nd ≤ n * 7 + c → 0 ≡ cell nd n c
-cell_past nd n c h = sym (get_or-eq_default nd 0 h)
 
 and_two : (a b c d : Bool) → (a && (b && c) && d) ≡ (a && b && c && d)
 and_two true b c d = refl

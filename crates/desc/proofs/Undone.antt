@@ -16,7 +16,7 @@ use Rattle.varint.specs.Outs.{Sent, send, wrote}
 use Rattle.varint.specs.RoundTrips.{Stands}
 use Rattle.varint.specs.Stores.{part, filled}
 use Rattle.varint.specs.declared.error.Refusal.{Refusal}
-use Rattle.varint.proofs.Basics.{pick_cases}
+use Rattle.varint.proofs.Basics.{pick_cases, never}
 use Rattle.varint.proofs.StoreLaws.{filled_fits, part_seam}
 use Rattle.desc.specs.Decoding.{DecodedDesc, settled_desc, decode_desc}
 use Rattle.desc.specs.Encoding.{held_in, sent_desc, encode_desc}
@@ -41,7 +41,7 @@ stands_part x s q h =
 
 -- what was refused was not done
 pub not_wrote : {X : Type 0} {e : Refusal} {n : ℕ} → Err e ≡ Ok n → X
-not_wrote h = let z : ◌≡◌ {A = ℕ} 0 1 = cc in absurd (omega arith)
+not_wrote h = never cc
 
 abbrev Again : ℕ → ℕ → List ℕ → List ℕ → ℕ → DecodedDesc → Type 0
 Again max limit s out used l = l.answer ≡ Ok used → encode_desc max limit l.text l.nodes out ≡ send max (part s 0 used) out

@@ -82,7 +82,7 @@ unfoldable pub verdict : {A : Type 0} → Held A → Result (Unit {0}) Refusal
 verdict (held a) = Ok tt
 verdict (lacks e) = Err e
 
-unfoldable pub then_names : Result (Unit {0}) Refusal → (Result (Unit {0}) Refusal) → Result (Unit {0}) Refusal
+unfoldable pub then_names : Result (Unit {0}) Refusal → Result (Unit {0}) Refusal → Result (Unit {0}) Refusal
 then_names (Ok _) next = next
 then_names (Err e) next = Err e
 

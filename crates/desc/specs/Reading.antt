@@ -67,7 +67,7 @@ unfoldable pub children : (ℕ → Got (Tree (List ℕ))) → Bool → List ℕ 
 children r check s tag zero p = Ok (none, p)
 children r check s tag (suc n) p =
     with_label (label_at check s tag p)
-    (λ start len d q. then (r q) (λ t e. then (children r check s tag n e) (λ ks f. Ok ((more (part s start len) d t ks), f))))
+    (λ start len d q. then (r q) (λ t e. then (children r check s tag n e) (λ ks f. Ok (more (part s start len) d t ks, f))))
 
 abbrev pub desc_on : (ℕ → Got (Tree (List ℕ))) → Bool → List ℕ → Got Head → Got (Tree (List ℕ))
 desc_on r check s (Ok (Leaf tag p, next)) = Ok (leaf tag p, next)

@@ -43,7 +43,7 @@ node_fits nd n parent =
 unfoldable pub kids_at : (ℕ → ℕ → Got (Tree NameSpan)) → List ℕ → ℕ → ℕ → ℕ → Got (Kids NameSpan)
 kids_at r nd tag zero m = Ok (none, m)
 kids_at r nd tag (suc k) m =
-    then (r m tag) (λ t e. then (kids_at r nd tag k e) (λ ks f. Ok ((more (cell nd m start_at, cell nd m len_at) (cell nd m discriminant_at) t ks), f)))
+    then (r m tag) (λ t e. then (kids_at r nd tag k e) (λ ks f. Ok (more (cell nd m start_at, cell nd m len_at) (cell nd m discriminant_at) t ks, f)))
 
 abbrev pub closed_at : ℕ → ℕ → Got (Kids NameSpan) → Got (Tree NameSpan)
 closed_at tag end (Ok (ks, m)) = pick (eqb end m) (Ok (branch tag ks, m)) (Err (BadMessage Layout))
@@ -56,7 +56,7 @@ table (suc depth) nd n parent =
     pick (node_fits nd n parent)
     (pick (is_branch nd n)
     (closed_at (cell nd n tag_at) (cell nd n end_at) (kids_at (table depth nd) nd (cell nd n tag_at) (cell nd n count_at) (n + 1)))
-    (Ok ((leaf (cell nd n tag_at) (cell nd n predicate_at)), n + 1)))
+    (Ok (leaf (cell nd n tag_at) (cell nd n predicate_at), n + 1)))
     (Err (BadMessage Layout))
 
 unfoldable mutual
@@ -71,7 +71,7 @@ unfoldable mutual
       then_held (name_held tx name.0 name.1) (λ x. then_held (gather tx t) (λ u. then_held (gather_kids tx ks) (λ l. held (more x d u l))))
 
 -- the table of the sample union, with a gap in its text
-example_table : table 64 (4 ∷ 0 ∷ 0 ∷ 0 ∷ 0 ∷ 1 ∷ 2 ∷ 5 ∷ 3 ∷ 1 ∷ 9 ∷ 0 ∷ 0 ∷ 2 ∷ []) 0 0 ≡ Ok ((branch 4 (more (3, 1) 9 (leaf 5 0) none)), 2)
+example_table : table 64 (4 ∷ 0 ∷ 0 ∷ 0 ∷ 0 ∷ 1 ∷ 2 ∷ 5 ∷ 3 ∷ 1 ∷ 9 ∷ 0 ∷ 0 ∷ 2 ∷ []) 0 0 ≡ Ok (branch 4 (more (3, 1) 9 (leaf 5 0) none), 2)
 unfolding table kids_at node_fits root_name discriminant_fits predicate_fits is_branch leaf_fits
 example_table = refl
 

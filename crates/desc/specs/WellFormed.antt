@@ -28,16 +28,16 @@ abbrev pub Inside : ℕ → (ℕ → Type 0) → Type 0
 Inside zero P = ⊥
 Inside (suc depth) P = P depth
 
--- A descriptor of at most `depth` levels, each of whose names is Ok. A count of parts is written as a varint, so it is below 2 ^ 64.
+-- A descriptor of at most `depth` levels, each of whose names is Good. A count of parts is written as a varint, so it is below 2 ^ 64.
 unfoldable mutual
   pub Fine : {N : Type 0} → (N → Type 0) → ℕ → Tree N → Type 0
-  Fine Ok depth (leaf tag p) = Inside depth (λ _. LeafOk tag p)
-  Fine Ok depth (branch tag ks) = Inside depth (λ d. BranchOk tag × (kid_count ks < 2 ^ 64) × FineKids Ok tag d ks)
+  Fine Good depth (leaf tag p) = Inside depth (λ _. LeafOk tag p)
+  Fine Good depth (branch tag ks) = Inside depth (λ d. BranchOk tag × (kid_count ks < 2 ^ 64) × FineKids Good tag d ks)
 
   -- the parts of a type with this tag
   pub FineKids : {N : Type 0} → (N → Type 0) → ℕ → ℕ → Kids N → Type 0
-  FineKids Ok tag depth none = Unit
-  FineKids Ok tag depth (more name d t ks) = Ok name × LabelOk tag d × Fine Ok depth t × FineKids Ok tag depth ks
+  FineKids Good tag depth none = Unit
+  FineKids Good tag depth (more name d t ks) = Good name × LabelOk tag d × Fine Good depth t × FineKids Good tag depth ks
 
 -- a union of an int and a fact, of two levels
 example_fine : Fine {N = ℕ} (λ _. Unit) 2 (branch 4 (more 1 7 (leaf 0 0) (more 2 8 (leaf 2 99) none)))

@@ -11,7 +11,7 @@ pub mod write;
 ghost use Rattle.std.specs.Prelude.{◌≡◌, true, false, ◌+◌, ◌≤◌, length};
 ghost use Rattle.desc.specs.Decoding.{measured, fill_desc, decode_desc};
 ghost use Rattle.desc.specs.Reading.{desc};
-ghost use Rattle.desc.specs.Inner.Walking.{outcome, Agrees};
+ghost use Rattle.desc.specs.Inner.Walking.{Keeps, reached, outcome, Agrees};
 
 use head::{Head, Label, read_head, read_label};
 use node::{WIDTH, store_node};
@@ -38,69 +38,62 @@ const ROOT: Label = Label {
     discriminant: 0,
 };
 
-// Reads the descriptor at place `at`, where `depth` more levels may nest, as node n with this label; its texts go to text from place t on. A buffer and the
-// place in it are lent side by side, here and above: a struct that held the `&mut` would owe in each contract that it keeps it, which is no plainer.
-fn walk(
-    s: &[u8],
-    at: usize,
-    depth: u64,
-    limit: u64,
-    check: bool,
-    text: &mut [u8],
+// Lent memory, and how far it is filled: the place of the next byte of text, and the number of the next node.
+#[derive(Drop)]
+struct Memory<'a> {
+    text: &'a mut [u8],
     t: usize,
-    nodes: &mut [u64],
+    nodes: &'a mut [u64],
     n: usize,
-    label: Label,
-) -> Result<Walked, Refusal>
-    requires { t + n ≤ at }
-    ensures { Agrees (outcome (desc check limit depth s.now at) text.old t nodes.old n (label.name.start, label.name.len) label.discriminant) (length s.now) result text.new nodes.new }
-{
-    let too_deep = depth == 0;
-    if too_deep {
-        return Err(Refusal::TooDeep(limit));
-    }
-    let (head, next) = read_head(s, at)?;
-    match head {
-        Head::Leaf { tag, predicate } => {
-            store_node(nodes, n, tag, label, predicate, 0, n + 1);
-            Ok(Walked {
-                next,
-                text: t,
-                nodes: n + 1,
-            })
+}
+
+impl Memory<'_> {
+    // Reads the descriptor at place `at`, where `depth` more levels may nest, as the next node with this label, and returns the place past it.
+    fn walk(
+        &mut self,
+        s: &[u8],
+        at: usize,
+        depth: u64,
+        limit: u64,
+        check: bool,
+        label: Label,
+    ) -> Result<usize, Refusal>
+        requires { self.old.t + self.old.n ≤ at }
+        ensures kept { Keeps self.old self.new }
+        ensures read { Agrees (outcome (desc check limit depth s.now at) self.old.text.now self.old.t self.old.nodes.now self.old.n (label.name.start, label.name.len) label.discriminant) (length s.now) (reached result self.new) self.new.text.now self.new.nodes.now }
+    {
+        let too_deep = depth == 0;
+        if too_deep {
+            return Err(Refusal::TooDeep(limit));
         }
-        Head::Branch { tag, count } => {
-            let mut past = Walked {
-                next,
-                text: t,
-                nodes: n + 1,
-            };
-            for _ in 0..count {
-                let (found, body) = read_label(s, tag, past.next, check)?;
-                let from = found.name;
-                copy_bytes(s, from.start, from.len, text, past.text);
-                let child = Label {
-                    name: Span {
-                        start: past.text,
-                        len: from.len,
-                    },
-                    discriminant: found.discriminant,
-                };
-                past = walk(
-                    s,
-                    body,
-                    depth - 1,
-                    limit,
-                    check,
-                    text,
-                    past.text + from.len,
-                    nodes,
-                    past.nodes,
-                    child,
-                )?;
+        let (head, next) = read_head(s, at)?;
+        let n = self.n;
+        match head {
+            Head::Leaf { tag, predicate } => {
+                store_node(self.nodes, n, tag, label, predicate, 0, n + 1);
+                self.n = n + 1;
+                Ok(next)
             }
-            store_node(nodes, n, tag, label, 0, count, past.nodes);
-            Ok(past)
+            Head::Branch { tag, count } => {
+                self.n = n + 1;
+                let mut past = next;
+                for _ in 0..count {
+                    let (found, body) = read_label(s, tag, past, check)?;
+                    let from = found.name;
+                    copy_bytes(s, from.start, from.len, self.text, self.t);
+                    let child = Label {
+                        name: Span {
+                            start: self.t,
+                            len: from.len,
+                        },
+                        discriminant: found.discriminant,
+                    };
+                    self.t += from.len;
+                    past = self.walk(s, body, depth - 1, limit, check, child)?;
+                }
+                store_node(self.nodes, n, tag, label, 0, count, self.n);
+                Ok(past)
+            }
         }
     }
 }
@@ -111,9 +104,18 @@ fn measure_by(s: &[u8], at: usize, limit: u64, check: bool) -> Result<Walked, Re
 {
     let mut text = [0u8; 1];
     let mut nodes = [0u64; 1];
-    walk(
-        s, at, limit, limit, check, &mut text, 0, &mut nodes, 0, ROOT,
-    )
+    let mut memory = Memory {
+        text: &mut text,
+        t: 0,
+        nodes: &mut nodes,
+        n: 0,
+    };
+    let next = memory.walk(s, at, limit, limit, check, ROOT)?;
+    Ok(Walked {
+        next,
+        text: memory.t,
+        nodes: memory.n,
+    })
 }
 
 // The same for whoever reads a descriptor within other bytes.
@@ -138,7 +140,8 @@ pub fn fill_desc(
 {
     let measured = measure_by(s, at, limit, false)?;
     if t <= at && n <= at - t {
-        let _ = walk(s, at, limit, limit, false, text, t, nodes, n, ROOT);
+        let mut memory = Memory { text, t, nodes, n };
+        let _ = memory.walk(s, at, limit, limit, false, ROOT);
     }
     Ok(measured)
 }
@@ -173,10 +176,16 @@ fn decode_within(
     if nodes.len() < numbers {
         return Err(Refusal::too_small(Buffer::Nodes, numbers));
     }
-    let _ = walk(payload, 0, limit, limit, false, text, 0, nodes, 0, ROOT);
-    fill_from(text, t, 0);
+    let mut memory = Memory {
+        text,
+        t: 0,
+        nodes,
+        n: 0,
+    };
+    let _ = memory.walk(payload, 0, limit, limit, false, ROOT);
+    fill_from(memory.text, t, 0);
     fill_from(rows, 0, 0);
-    fill_from(nodes, numbers, 0);
+    fill_from(memory.nodes, numbers, 0);
     Ok(used)
 }
 

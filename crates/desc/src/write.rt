@@ -1,12 +1,13 @@
-// Writing descriptors: a node table and its texts back to bytes.
-ghost use Rattle.std.specs.Prelude.{true, ◌&&◌, ◌||◌, [], ◌≡◌, ◌+◌, ◌-◌, ◌/◌, ◌≤◌, ◌<◌, leb, eqb, length};
+// Writing descriptors: a node table and its texts back to bytes. Public functions are lent a buffer and a place in it, which may lie past the end: who writes
+// messages holds both in a writer that has steps of its own.
+ghost use Rattle.std.specs.Prelude.{true, false, ◌&&◌, ◌||◌, ◌≡◌, ◌+◌, ◌-◌, ◌/◌, ◌≤◌, ◌<◌, leb, eqb, length};
 ghost use Rattle.varint.specs.Choice.{pick};
 ghost use Rattle.varint.specs.Gathering.{name_held};
 ghost use Rattle.varint.specs.Outs.{declared};
 ghost use Rattle.desc.specs.Layout.{width, start_at, len_at, discriminant_at};
 ghost use Rattle.desc.specs.Table.{cell, node_fits, table};
-ghost use Rattle.desc.specs.Emitting.{put_number, put_where, put_name, put_label, emitted_to, sized, put_desc, verdict, names_from};
-ghost use Rattle.desc.specs.Inner.Emission.{nowhere, told, emission};
+ghost use Rattle.desc.specs.Emitting.{put_number, put_where, put_name, put_label, sized, put_desc, verdict, names_from};
+ghost use Rattle.desc.specs.Inner.Emission.{Keeps, Writes, pen, told, emission};
 ghost use Rattle.desc.specs.Encoding.{encode_desc};
 
 use crate::head::{TAG_BYTES, TAG_FACT, TAG_RECORD, TAG_UNION};
@@ -98,29 +99,6 @@ pub fn put_number(out: &mut [u8], at: usize, v: u64) -> usize
     plus(at, n)
 }
 
-// The same for a number that mostly has one byte, as a count, a predicate or a name's length: that takes no call.
-fn put_small(out: &mut [u8], at: usize, v: u64) -> usize
-    ensures { record { out = out.new; place = result } ≡ put_number v (record { out = out.old; place = at }) }
-{
-    if v < 0x80 {
-        if at < out.len() {
-            out[at] = v as u8;
-            return at + 1;
-        }
-    }
-    put_number(out, at, v)
-}
-
-// The same where it is wanted; else nothing is stored.
-fn put_where(out: &mut [u8], at: usize, wanted: bool, v: u64) -> usize
-    ensures { record { out = out.new; place = result } ≡ put_where wanted v (record { out = out.old; place = at }) }
-{
-    if wanted {
-        return put_small(out, at, v);
-    }
-    at
-}
-
 // Stores `len` bytes of the text, as far as they are there, and moves on by `len`.
 pub fn put_name(text: &[u8], start: usize, len: usize, out: &mut [u8], at: usize) -> usize
     ensures { record { out = out.new; place = result } ≡ put_name text.now (start, len) (record { out = out.old; place = at }) }
@@ -129,138 +107,123 @@ pub fn put_name(text: &[u8], start: usize, len: usize, out: &mut [u8], at: usize
     plus(at, len)
 }
 
-// What stands before node `m`, which is there, a child of a type with this tag.
-fn put_label(text: &[u8], nodes: &[u64], m: usize, tag: u64, out: &mut [u8], at: usize) -> usize
-    requires { m < length nodes.now / width }
-    ensures { record { out = out.new; place = result } ≡ put_label text.now tag (cell nodes.now m start_at, cell nodes.now m len_at) (cell nodes.now m discriminant_at) (record { out = out.old; place = at }) }
-{
-    let k = m * node::WIDTH;
-    let start = nodes[k + node::START];
-    let len = nodes[k + node::LEN];
-    let discriminant = nodes[k + node::DISCRIMINANT];
-    let named = put_small(out, at, len);
-    let past = put_name(text, start as usize, len as usize, out, named);
-    put_where(out, past, tag == TAG_UNION, discriminant)
-}
-
-// Two numbers, the second only where it is asked for.
-fn put_two(out: &mut [u8], at: usize, v: u64, wanted: bool, w: u64) -> usize
-    ensures { record { out = out.new; place = result } ≡ put_where wanted w (put_number v (record { out = out.old; place = at })) }
-{
-    let past = put_number(out, at, v);
-    put_where(out, past, wanted, w)
+// A buffer, and the place in it where the next byte goes.
+#[derive(Drop)]
+struct Writer<'a> {
+    out: &'a mut [u8],
+    at: usize,
 }
 
 // A type with parts, whose last part ends before node `next`: its end is to say so.
-fn closed(end: u64, next: usize, place: usize) -> Option<Emitted>
-    ensures { result ≡ pick (eqb end next) (Some (emitted_to next place)) None }
+fn closed(end: u64, next: usize) -> Option<usize>
+    ensures { result ≡ pick (eqb end next) (Some next) None }
 {
     if end == next as u64 {
-        return Some(Emitted { next, place });
+        return Some(next);
     }
     None
 }
 
-// Writes node `n`, which stands below a parent with this tag (0: it is a root), and all below it from place `at` of `out` on, where `depth`
-// more levels may nest. What lies past the end of `out` is not stored.
-fn emit(
-    text: &[u8],
-    nodes: &[u64],
-    n: usize,
-    parent: u64,
-    depth: u64,
-    out: &mut [u8],
-    at: usize,
-) -> Option<Emitted>
-    ensures { told result out.new ≡ emission text.now (table depth nodes.now n parent) (record { out = out.old; place = at }) }
-{
-    if depth == 0 {
-        return None;
+// The walk over a tree, and its steps. With `STORES` false the buffer is empty, and only lengths are added up. Each step is inlined.
+impl Writer<'_> {
+    // A number that mostly has one byte, as a tag, a count, a predicate or a name's length: that takes no call.
+    #[inline(always)]
+    fn small<const STORES: bool>(&mut self, v: u64)
+        requires { STORES ≡ false → length self.old.out.now ≡ 0 }
+        ensures { Writes (put_number v) self.old self.new }
+    {
+        if !STORES {
+            self.at = plus(self.at, len_u64(v));
+            return;
+        }
+        if v < 0x80 {
+            if self.at < self.out.len() {
+                self.out[self.at] = v as u8;
+                self.at += 1;
+                return;
+            }
+        }
+        self.at = put_number(self.out, self.at, v);
     }
-    if !node_fits(nodes, n, parent) {
-        return None;
+
+    // The same where it is wanted.
+    #[inline(always)]
+    fn optional<const STORES: bool>(&mut self, wanted: bool, v: u64)
+        requires { STORES ≡ false → length self.old.out.now ≡ 0 }
+        ensures { Writes (put_where wanted v) self.old self.new }
+    {
+        if wanted {
+            self.small::<STORES>(v);
+        }
     }
-    let k = n * node::WIDTH;
-    let tag = nodes[k + node::TAG];
-    if !is_branch(tag) {
-        let place = put_two(out, at, tag, tag == TAG_FACT, nodes[k + node::PREDICATE]);
-        return Some(Emitted { next: n + 1, place });
+
+    #[inline(always)]
+    fn name<const STORES: bool>(&mut self, text: &[u8], start: usize, len: usize)
+        requires { STORES ≡ false → length self.old.out.now ≡ 0 }
+        ensures { Writes (put_name text.now (start, len)) self.old self.new }
+    {
+        if !STORES {
+            self.at = plus(self.at, len);
+            return;
+        }
+        self.at = put_name(text, start, len, self.out, self.at);
     }
-    let count = nodes[k + node::COUNT];
-    let mut past = Emitted {
-        next: n + 1,
-        place: put_two(out, at, tag, true, count),
-    };
-    for _ in 0..count {
-        if nodes.len() / node::WIDTH <= past.next {
+
+    // What stands before node `m`, which is there, a child of a type with this tag.
+    #[inline(always)]
+    fn label<const STORES: bool>(&mut self, text: &[u8], nodes: &[u64], m: usize, tag: u64)
+        requires is_there { m < length nodes.now / width }
+        requires stores { STORES ≡ false → length self.old.out.now ≡ 0 }
+        ensures { Writes (put_label text.now tag (cell nodes.now m start_at, cell nodes.now m len_at) (cell nodes.now m discriminant_at)) self.old self.new }
+    {
+        let k = m * node::WIDTH;
+        let start = nodes[k + node::START];
+        let len = nodes[k + node::LEN];
+        self.small::<STORES>(len);
+        self.name::<STORES>(text, start as usize, len as usize);
+        self.optional::<STORES>(tag == TAG_UNION, nodes[k + node::DISCRIMINANT]);
+    }
+
+    // Writes node `n`, which stands below a parent with this tag (0: it is a root), and all below it, where `depth` more levels may nest, and returns the
+    // node after the last one written. What lies past the end of the buffer is not stored.
+    #[tactic(auto, using(crate::proofs::TableCells::fits_inside))]
+    fn emit<const STORES: bool>(
+        &mut self,
+        text: &[u8],
+        nodes: &[u64],
+        n: usize,
+        parent: u64,
+        depth: u64,
+    ) -> Option<usize>
+        requires { STORES ≡ false → length self.old.out.now ≡ 0 }
+        ensures kept { Keeps self.old self.new }
+        ensures written { told result (pen self.new) ≡ emission text.now (table depth nodes.now n parent) (pen self.old) }
+    {
+        if depth == 0 {
             return None;
         }
-        let named = put_label(text, nodes, past.next, tag, out, past.place);
-        past = emit(text, nodes, past.next, tag, depth - 1, out, named)?;
-    }
-    closed(nodes[k + node::END], past.next, past.place)
-}
-
-// The place after the varint of `v` that starts at place `at`.
-fn past_number(at: usize, v: u64) -> usize
-    ensures { nowhere result ≡ put_number v (nowhere at) }
-{
-    plus(at, len_u64(v))
-}
-
-// The same where there is one.
-fn past_where(at: usize, wanted: bool, v: u64) -> usize
-    ensures { nowhere result ≡ put_where wanted v (nowhere at) }
-{
-    if wanted {
-        return past_number(at, v);
-    }
-    at
-}
-
-// The place after what stands before node `m`, which is there, a child of a type with this tag.
-fn past_label(nodes: &[u64], m: usize, tag: u64, at: usize) -> usize
-    requires { m < length nodes.now / width }
-    ensures { nowhere result ≡ put_label [] tag (cell nodes.now m start_at, cell nodes.now m len_at) (cell nodes.now m discriminant_at) (nowhere at) }
-{
-    let k = m * node::WIDTH;
-    let len = nodes[k + node::LEN];
-    let named = past_number(at, len);
-    let past = plus(named, len as usize);
-    past_where(past, tag == TAG_UNION, nodes[k + node::DISCRIMINANT])
-}
-
-// What `emit` answers, whatever the text and the buffer are: the test of the layout and the place after the last byte, with nothing stored. A walk of
-// its own, since it only adds up lengths; that of a tag is 1.
-fn gauge(nodes: &[u64], n: usize, parent: u64, depth: u64, at: usize) -> Option<Emitted>
-    ensures { told result [] ≡ emission [] (table depth nodes.now n parent) (nowhere at) }
-{
-    if depth == 0 {
-        return None;
-    }
-    if !node_fits(nodes, n, parent) {
-        return None;
-    }
-    let k = n * node::WIDTH;
-    let tag = nodes[k + node::TAG];
-    let past = plus(at, 1);
-    if !is_branch(tag) {
-        let place = past_where(past, tag == TAG_FACT, nodes[k + node::PREDICATE]);
-        return Some(Emitted { next: n + 1, place });
-    }
-    let count = nodes[k + node::COUNT];
-    let mut past = Emitted {
-        next: n + 1,
-        place: past_number(past, count),
-    };
-    for _ in 0..count {
-        if nodes.len() / node::WIDTH <= past.next {
+        if !node_fits(nodes, n, parent) {
             return None;
         }
-        let named = past_label(nodes, past.next, tag, past.place);
-        past = gauge(nodes, past.next, tag, depth - 1, named)?;
+        let k = n * node::WIDTH;
+        let tag = nodes[k + node::TAG];
+        self.small::<STORES>(tag);
+        if !is_branch(tag) {
+            self.optional::<STORES>(tag == TAG_FACT, nodes[k + node::PREDICATE]);
+            return Some(n + 1);
+        }
+        let count = nodes[k + node::COUNT];
+        self.small::<STORES>(count);
+        let mut next = n + 1;
+        for _ in 0..count {
+            if nodes.len() / node::WIDTH <= next {
+                return None;
+            }
+            self.label::<STORES>(text, nodes, next, tag);
+            next = self.emit::<STORES>(text, nodes, next, tag, depth - 1)?;
+        }
+        closed(nodes[k + node::END], next)
     }
-    closed(nodes[k + node::END], past.next, past.place)
 }
 
 // The node after the tree whose root is node `n`, and how many bytes it takes by the lengths in the table; a size over 2^64−1 is told as
@@ -268,7 +231,15 @@ fn gauge(nodes: &[u64], n: usize, parent: u64, depth: u64, at: usize) -> Option<
 pub fn size_desc(nodes: &[u64], n: usize, limit: u64) -> Option<Emitted>
     ensures { result ≡ sized (table limit nodes.now n 0) }
 {
-    gauge(nodes, n, 0, limit, 0)
+    let mut writer = Writer {
+        out: &mut [],
+        at: 0,
+    };
+    let next = writer.emit::<false>(&[], nodes, n, 0, limit)?;
+    Some(Emitted {
+        next,
+        place: writer.at,
+    })
 }
 
 // Writes the tree whose root is node `n` from place `at` of `out` on, as far as `out` goes: for whoever writes a descriptor within other bytes. Of
@@ -290,7 +261,12 @@ pub fn put_desc(
             place: plus(at, place),
         });
     }
-    emit(text, nodes, n, 0, limit, out, at)
+    let mut writer = Writer { out, at };
+    let next = writer.emit::<true>(text, nodes, n, 0, limit)?;
+    Some(Emitted {
+        next,
+        place: writer.at,
+    })
 }
 
 // Is the name of `len` bytes from place `start` on in the text, and is it UTF-8?
@@ -355,8 +331,9 @@ fn encode_within(text: &[u8], nodes: &[u64], max: u64, limit: u64, out: &mut [u8
     if out.len() < place {
         return Err(Refusal::too_small(Buffer::Out, place));
     }
-    let _ = emit(text, nodes, 0, 0, limit, out, 0);
-    fill_from(out, place, 0);
+    let mut writer = Writer { out, at: 0 };
+    let _ = writer.emit::<true>(text, nodes, 0, 0, limit);
+    fill_from(writer.out, place, 0);
     Ok(place)
 }
 

@@ -3,10 +3,9 @@ use mathlib.Core.Bool.{Bool, true}
 use mathlib.Core.Path.{◌≡◌, refl, sym, ◌∙◌}
 use mathlib.Core.List.{List}
 use Prim.Native.Nat.{ℕ, suc}
-use native.Mathlib.Omega.{arith}
 use lib.ListN.{length}
 use Rattle.varint.specs.Got.{Got, then}
-use Rattle.varint.specs.Formats.{Format, got_text, ◌⊗◌, named, read_times, counted}
+use Rattle.varint.specs.Formats.{Format, got_text, named, read_times, counted}
 use Rattle.varint.specs.Leb128.{get_u64}
 use Rattle.varint.specs.Texts.{skim_text, get_text, get_name}
 use Rattle.varint.specs.Inner.Again.{Accepted, Again}
@@ -14,10 +13,11 @@ use Rattle.varint.proofs.FormatParts.{get_name_lem}
 use Rattle.varint.proofs.TextLaws.{TextEnds, skim_ends, text_skims}
 use Rattle.std.specs.Prelude.{Ok, Err}
 use Rattle.varint.specs.declared.text.Span.{Span}
+use Rattle.varint.proofs.Basics.{never}
 
 -- the first reading has no other before it
 pub checks : {A : Type 0} (g : Got A) → Again true g
-checks g h = let z : ◌≡◌ {A = ℕ} 0 1 = cc (h) in absurd (omega arith)
+checks g h = never (cc (h))
 
 -- what was read was accepted
 pub accepted : {A : Type 0} {g : Got A} {a : A} {q : ℕ} → g ≡ Ok (a, q) → Accepted g
@@ -32,13 +32,6 @@ pub again_first : {A B : Type 0} (x : Got A) (k : A → ℕ → Got B) {check : 
 again_first x k h z = first x k (h z)
 
 module _ {check : Bool} (s : List ℕ) (at : ℕ) where
-  module _ {A B : Type 0} (f : Format A) (g : Format B) where
-    pub again_left : Again check ((f ⊗ g).read s at) → Again check (f.read s at)
-    again_left = again_first (f.read s at) _
-
-    pub again_right : {a : A} {p : ℕ} → f.read s at ≡ Ok (a, p) → Again check ((f ⊗ g).read s at) → Again check (g.read s p)
-    again_right {p = p} e h z = first (g.read s p) _ (rw e at (h z))
-
   pub again_under : {A B : Type 0} (to : A → B) (from : B → A) (f : Format A) → Again check ((named to from f).read s at) → Again check (f.read s at)
   again_under to from f = again_first (f.read s at) _
 

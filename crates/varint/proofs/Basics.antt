@@ -3,6 +3,7 @@ use mathlib.Core.Bool.{Bool, true, false, ◌&&◌, true≢false}
 use mathlib.Core.Path.{◌≡◌, refl, sym, ◌∙◌}
 use mathlib.Core.Logic.{◌⊎◌, inl, inr}
 use Prim.Native.Nat.{ℕ, ◌≤◌, ◌<◌}
+use native.Mathlib.Omega.{arith}
 use lib.Dec.{ltb}
 use borrow.Author.Tests.{ltb-true, ltb-false}
 use Rattle.varint.specs.Choice.{pick}
@@ -28,6 +29,10 @@ test false h k = k refl
 
 pub clash : {X : Type 0} {t : Bool} → t ≡ true → t ≡ false → X
 clash h k = absurd (true≢false (sym h ∙ k))
+
+-- Facts that contradict each other give any fact: `cc` finds 0 ≡ 1 in them.
+pub never : {X : Type 0} → ◌≡◌ {A = ℕ} 0 1 → X
+never e = absurd (omega arith)
 
 -- a test that both of two hold
 pub both : (s t : Bool) → (s && t) ≡ true → (s ≡ true) × (t ≡ true)

@@ -22,9 +22,6 @@ pub going_start : (s : List ℕ) (at : ℕ) → Going s at 0 1 0 at
 unfolding get_u64
 going_start s at = record { nine = omega arith; same = refl; power = refl; low = omega arith }
 
-pub going_from : (s : List ℕ) (at : ℕ) → Going s at 0 1 (at - at) at
-going_from s at = let e : at - at ≡ 0 = omega arith in rw e (going_start s at)
-
 module _ {s : List ℕ} {at value unit i p : ℕ} (g : Going s at value unit i p) where
   -- what a payload adds, before the tenth byte
   pub going_fits : (x : ℕ) → x < 128 → (i ≡ 9 → ⊥) → (value + x * unit < unit * 128) × (unit * 128 ≤ 9223372036854775808)
@@ -60,8 +57,3 @@ module _ {s : List ℕ} {at value unit i p : ℕ} (g : Going s at value unit i p
         power = next_weight i g.power;
         low = (going_fits (b - 128) d n).0;
       }
-
-  -- the same where i is counted by the places
-  pub going_next : i ≡ p - at → at ≤ p → p < length s → {b : ℕ} → b ≡ get_or s p 0 → b < 256 → 128 ≤ b → (i ≡ 9 → ⊥)
-      → Going s at (value + (b - 128) * unit) (unit * 128) (p + 1 - at) (p + 1)
-  going_next c o h e byte big n = let k : p + 1 - at ≡ i + 1 = omega arith in rw k (going_more h e byte big n)

@@ -9,13 +9,13 @@ use lib.Arith.{mod-mul}
 use lib.Dec.{ltb, lit<}
 use lib.ListN.{length, drop, length-append, length-drop}
 use lib.Seq.{length-take-le}
-use borrow.Author.Tests.{lt-ltb, le-ltb, ltb-true, ltb-false}
+use borrow.Author.Tests.{le-ltb, ltb-true, ltb-false}
 use Rattle.varint.specs.Fixed.{le, put_le, get_le}
 use Rattle.varint.specs.RoundTrips.{Bytes}
 use Rattle.varint.specs.Stores.{part}
 use Rattle.varint.specs.declared.error.Refusal.{Refusal}
 use Rattle.varint.specs.declared.error.Refusal.TheVariants.{UnexpectedEof}
-use Rattle.varint.proofs.Basics.{pick_cases, test}
+use Rattle.varint.proofs.Basics.{pick_cases, test, never}
 use Rattle.varint.specs.Inner.Taking.{taken}
 use Rattle.varint.proofs.Gots.{no_got, got_of, bad_of}
 use Rattle.varint.proofs.StoreLaws.{part_add, part_seam}
@@ -92,12 +92,8 @@ pub get_le_value : (w : ℕ) (s : List ℕ) (at : ℕ) → w ≤ length s - at �
 unfolding get_le
 get_le_value w s at h = rw (le-ltb (length s - at) w h)
 
-pub get_le_short : (w : ℕ) (s : List ℕ) (at : ℕ) → length s - at < w → get_le w s at ≡ Err UnexpectedEof
-unfolding get_le
-get_le_short w s at h = rw (lt-ltb (length s - at) w h)
-
 apart : {X : Type 0} {r : Refusal} {n next : ℕ} → Err r ≡ got n next → X
-apart e = let z : ◌≡◌ {A = ℕ} 0 1 = cc in absurd (omega arith)
+apart e = never cc
 
 pub get_le_field : (w : ℕ) (s : List ℕ) (at n next : ℕ) → get_le w s at ≡ Ok (n, next) → Field w s at n next
 unfolding get_le

@@ -14,7 +14,7 @@ use Rattle.varint.specs.Stores.{part}
 use Rattle.varint.specs.Texts.{skim_on, skim_text, checked, get_text, get_name, span}
 use Rattle.varint.specs.Utf8.{utf8}
 use Rattle.varint.specs.declared.error.Refusal.{Refusal}
-use Rattle.varint.proofs.Basics.{pick_cases}
+use Rattle.varint.proofs.Basics.{pick_cases, never}
 use Rattle.varint.proofs.Gots.{no_got, got_of}
 use Rattle.varint.proofs.ReadLaws.{get_ends}
 use Rattle.varint.proofs.StoreLaws.{length_part}
@@ -140,7 +140,7 @@ text_at s at p n q e = go (get_u64 s at) refl e
         rw (← a, ← b, ← c) (record { size = i; room = room; valid = u; next = refl })
 
     no : {r : Refusal} → Err r ≡ got (span p n) q → TextAt s at p n q
-    no f = let z : ◌≡◌ {A = ℕ} 0 1 = cc in absurd (omega arith)
+    no f = never cc
 
     go : (x : Got ℕ) → get_u64 s at ≡ x → checked s (skim_on s x) ≡ Ok (span p n, q) → TextAt s at p n q
     go (Err r) i f = no f

@@ -1,14 +1,14 @@
 -- What is got is one thing: a value with a place, or a refusal.
 use mathlib.Core.Path.{◌≡◌, ap}
 use Prim.Native.Nat.{ℕ}
-use native.Mathlib.Omega.{arith}
 use Rattle.std.specs.Prelude.{Err}
 use Rattle.varint.specs.Got.{Got, got}
 use Rattle.varint.specs.declared.error.Refusal.{Refusal}
+use Rattle.varint.proofs.Basics.{never}
 
 -- what is refused is not read
 pub no_got : {A X : Type 0} {r : Refusal} {a : A} {q : ℕ} → Err r ≡ got a q → X
-no_got e = let z : ◌≡◌ {A = ℕ} 0 1 = cc in absurd (omega arith)
+no_got e = never cc
 
 pub bad_of : {A : Type 0} {r e : Refusal} → ◌≡◌ {A = Got A} (Err r) (Err e) → r ≡ e
 bad_of e = cc

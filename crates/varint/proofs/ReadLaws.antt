@@ -118,10 +118,7 @@ pub read_end : (s : List ℕ) (p i v : ℕ) → length s ≤ p → read_from (dr
 unfolding read_from
 read_end s p i v h = rw (drop_of_length-le s h)
 
--- sizes: the weight of a byte before the tenth and of the tenth, and a payload at a weight
-pub weight_9 : {i u : ℕ} → i ≤ 9 → u ≡ 128 ^ i → u ≤ 9223372036854775808
-weight_9 h e = rw e (pow-le-pow_right {n = 128} (lit< tt) h)
-
+-- sizes: the weight of a byte before the tenth, and a payload at a weight
 pub weight_8 : {i u : ℕ} → i ≤ 8 → u ≡ 128 ^ i → u ≤ 72057594037927936
 weight_8 h e = rw e (pow-le-pow_right {n = 128} (lit< tt) h)
 

@@ -13,6 +13,7 @@ use Rattle.varint.specs.Runs.{values_of, end_of}
 use Rattle.varint.specs.declared.error.Refusal.{Refusal}
 use Rattle.varint.proofs.StoreLaws.{sets_cons}
 use Rattle.std.specs.Prelude.{Result, Ok, Err}
+use Rattle.varint.proofs.Basics.{never}
 
 module _ (n : ℕ) (s : List ℕ) (p : ℕ) where
   -- no more varints
@@ -50,14 +51,14 @@ module _ (n : ℕ) (s : List ℕ) (p : ℕ) (h : 0 < n) where
     where
       go : (x : Got ℕ) → get_u64 s p ≡ x → end_of n s p ≡ end_of (n - 1) s q
       go (Ok (v, r)) i = let k : r ≡ q = let f : ◌≡◌ {A = Result ℕ Refusal} (Ok r) (Ok q) = sym (end_more 1 s p (omega arith) i) ∙ e in cc in end_more n s p h i ∙ rw k
-      go (Err r) i = let f : ◌≡◌ {A = Result ℕ Refusal} (Err r) (Ok q) = sym (end_bad 1 s p (omega arith) i) ∙ e in let z : ◌≡◌ {A = ℕ} 0 1 = cc in absurd (omega arith)
+      go (Err r) i = let f : ◌≡◌ {A = Result ℕ Refusal} (Err r) (Ok q) = sym (end_bad 1 s p (omega arith) i) ∙ e in never cc
 
   pub end_off : {r : Refusal} → end_of 1 s p ≡ Err r → end_of n s p ≡ Err r
   unfolding end_of
   end_off {r} e = go (get_u64 s p) refl
     where
       go : (x : Got ℕ) → get_u64 s p ≡ x → end_of n s p ≡ Err r
-      go (Ok (v, q)) i = let f : ◌≡◌ {A = Result ℕ Refusal} (Ok q) (Err r) = sym (end_more 1 s p (omega arith) i) ∙ e in let z : ◌≡◌ {A = ℕ} 0 1 = cc in absurd (omega arith)
+      go (Ok (v, q)) i = let f : ◌≡◌ {A = Result ℕ Refusal} (Ok q) (Err r) = sym (end_more 1 s p (omega arith) i) ∙ e in never cc
       go (Err a) i = end_bad n s p h i ∙ (sym (end_bad 1 s p (omega arith) i) ∙ e)
 
 -- A run of `count` varints from place `at` on is stored in d₀: r of them are, in d, and the others stand from place p on.

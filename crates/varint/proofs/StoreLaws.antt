@@ -20,11 +20,6 @@ unfolding part
 part_cons s from zero h p = absurd (omega arith)
 part_cons s from (suc n) h p = rw (drop-cons s from 0 h, sub-one, add-one)
 
-pub part_none : (s : List ℕ) (from n : ℕ) → n ≤ 0 → part s from n ≡ []
-unfolding part
-part_none s from zero h = refl
-part_none s from (suc n) h = absurd (omega arith)
-
 -- no part starts at or past the end
 pub part_past : (s : List ℕ) (from n : ℕ) → length s ≤ from → part s from n ≡ []
 unfolding part
@@ -156,9 +151,6 @@ sets_part_clip s from n d at =
 
 -- Zeros
 
-pub zeros_cons : (n p : ℕ) → p < n → replicate {A = ℕ} (n - p) 0 ≡ 0 ∷ replicate (n - (p + 1)) 0
-zeros_cons n p h = let e : n - p ≡ suc (n - (p + 1)) = omega arith in rw e refl
-
 pub zeros_none : (n p : ℕ) → n ≤ p → replicate {A = ℕ} (n - p) 0 ≡ []
 zeros_none n p h = let e : n - p ≡ 0 = omega arith in rw e refl
 
@@ -190,9 +182,6 @@ sets_clear d at =
     let past : length d ≤ at + length (replicate {A = ℕ} (length d - at) 0) = omega arith in
     sets-eq (replicate (length d - at) 0) d at room ∙ rw (drop_of_length-le d past) (append-nil _))
     (below (length d) at)
-
-pub length_clear : (d : List ℕ) (at : ℕ) → length (clear_from d at) ≡ length d
-length_clear d at = sym (ap length (sets_clear d at)) ∙ length-sets d at (replicate (length d - at) 0)
 
 pub filled_fits : (d x : List ℕ) → length x ≤ length d → filled d x ≡ x ++ replicate (length d - length x) 0
 unfolding filled

@@ -14,7 +14,7 @@ use Rattle.varint.specs.Texts.{skim_on, skim_text, checked, get_text, span}
 use Rattle.varint.specs.Utf8.{utf8, utf8_at}
 use Rattle.varint.specs.declared.error.Refusal.{Refusal}
 use Rattle.varint.specs.declared.error.Refusal.TheVariants.{BadString}
-use Rattle.varint.proofs.Basics.{pick_cases}
+use Rattle.varint.proofs.Basics.{pick_cases, never}
 use Rattle.varint.proofs.ReadLaws.{Ends, get_ends}
 use Rattle.varint.proofs.Utf8Laws.{utf8_at_in}
 use Rattle.std.specs.Prelude.{Ok, Err}
@@ -64,7 +64,7 @@ text_skims s at start n next e = on (skim_text s at) e
   where
     found : (b : Bool) (p m q : ℕ) → pick b (got (span p m) q) (Err BadString) ≡ Ok (span start n, next) → got (span p m) q ≡ got (span start n) next
     found true p m q h = h
-    found false p m q h = let z : ◌≡◌ {A = ℕ} 0 1 = cc in absurd (omega arith)
+    found false p m q h = never cc
 
     on : (x : Got Span) → checked s x ≡ Ok (span start n, next) → x ≡ Ok (span start n, next)
     on (Ok (t, q)) h = found (utf8 (part s t.start t.len)) t.start t.len q h

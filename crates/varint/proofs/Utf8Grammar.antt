@@ -8,7 +8,7 @@ use Rattle.varint.specs.Utf8.{In, Range, within, Utf8Char, Utf8Octets, Rule, rul
 use Rattle.varint.specs.Utf8.Utf8Char.{utf8_1, utf8_2, utf8_3_e0, utf8_3_e1, utf8_3_ed, utf8_3_ee, utf8_4_f0, utf8_4_f1, utf8_4_f4}
 use Rattle.varint.specs.Utf8.Utf8Octets.{none, char}
 use Rattle.varint.specs.Utf8.Lead.{asks, bad}
-use Rattle.varint.proofs.Basics.{test, clash, both}
+use Rattle.varint.proofs.Basics.{test, clash, both, never}
 use Rattle.varint.proofs.Utf8Laws.{within_in, in_within, rule, known, lead_rules, lead_rule, utf8_asks, utf8_bad, utf8_empty}
 
 -- octets, each in its range
@@ -102,7 +102,7 @@ first p h (begins f o) = char (each Utf8Char p (next h f)) o
 
 octets : (ks : List Rule) → Chars ks → (a : ℕ) (rs : List Range) (s : List ℕ)
     → lead_of ks a ≡ asks rs → Begins rs s → Utf8Octets (a ∷ s)
-octets [] u a rs s e b = let z : ◌≡◌ {A = ℕ} 0 1 = cc in absurd (omega arith)
+octets [] u a rs s e b = never cc
 octets (k ∷ ks) u a rs s e b =
     test (within k.0 a)
     (λ w. let f : asks k.1 ≡ asks rs = rw w at e in

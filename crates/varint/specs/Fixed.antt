@@ -18,7 +18,7 @@ put_le (suc w) n = n % 256 ∷ put_le w (n / 256)
 
 -- The field of w bytes at place `at` of s; "short is 1".
 unfoldable pub get_le : ℕ → List ℕ → ℕ → Got ℕ
-get_le w s at = pick (ltb (length s - at) w) (Err UnexpectedEof) (Ok ((le (part s at w)), at + w))
+get_le w s at = pick (ltb (length s - at) w) (Err UnexpectedEof) (Ok (le (part s at w), at + w))
 
 example_put : put_le 4 305419896 ≡ 0x78 ∷ 0x56 ∷ 0x34 ∷ 0x12 ∷ []
 unfolding put_le

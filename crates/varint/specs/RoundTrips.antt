@@ -8,9 +8,9 @@ use Rattle.varint.specs.Utf8.{utf8}
 abbrev pub Reads : {A : Type 0} → (List ℕ → ℕ → Got A) → List ℕ → A → Type 0
 Reads read x a = (before rest : List ℕ) → read (before ++ (x ++ rest)) (length before) ≡ Ok (a, length before + length x)
 
--- so for what is printed of the things that are Ok
-pub record Back {A : Type 0} (f : Format A) (Ok : A → Type 0) : Type 0 where
-  pub back : (a : A) → Ok a → Reads f.read (f.print a) a
+-- so for what is printed of the things that are Good
+pub record Back {A : Type 0} (f : Format A) (Good : A → Type 0) : Type 0 where
+  pub back : (a : A) → Good a → Reads f.read (f.print a) a
 
 -- what can be printed and read back: a text that is UTF-8, and a list of such things, of a length that fits
 abbrev pub TextOk : List ℕ → Type 0

@@ -7,7 +7,7 @@ use Rattle.varint.specs.Choice.{pick}
 unfoldable pub part : List ℕ → ℕ → ℕ → List ℕ
 part s from n = take n (drop from s)
 
--- d with x from place `at` on
+-- d with x in each place from `at` on
 unfoldable pub fill_from : {A : Type 0} → A → List A → ℕ → List A
 fill_from x d at = take at d ++ replicate (length d - at) x
 
@@ -30,6 +30,10 @@ example_filled = refl
 example_kept : filled (9 ∷ []) (1 ∷ 2 ∷ []) ≡ 9 ∷ []
 unfolding filled
 example_kept = refl
+
+example_spaces : fill_from {A = ℕ} 0x20 (7 ∷ 8 ∷ 9 ∷ []) 1 ≡ 7 ∷ 0x20 ∷ 0x20 ∷ []
+unfolding fill_from
+example_spaces = refl
 
 example_cleared : clear_from (7 ∷ 8 ∷ 9 ∷ []) 1 ≡ 7 ∷ 0 ∷ 0 ∷ []
 unfolding fill_from

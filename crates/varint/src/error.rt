@@ -60,7 +60,7 @@ pub enum Refusal {
     BadMessage(Fault),
 }
 
-// A refusal as its number and two details.
+// A refusal as its number and two details, as C is told it.
 #[derive(Clone, Copy)]
 pub struct Code {
     pub number: u64,

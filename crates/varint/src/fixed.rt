@@ -1,4 +1,4 @@
-// Little-endian fields of 4 and 8 bytes.
+// Little-endian fields of 4 and 8 bytes. The place stands beside the slice, since it may lie past the end, as in lib.rt.
 ghost use Rattle.std.specs.Prelude.{◌≡◌, ◌<◌};
 ghost use Rattle.std.proofs.lemmas.List.Edits.{sets};
 ghost use Rattle.varint.specs.Fixed.{get_le, put_le};

@@ -1,7 +1,8 @@
 // Numbers on the wire (varint.rs): LEB128, seven bits a byte, least first, one encoding a number.
 //
 // A reader takes a slice and a place in it; a place at or past the end reads as no bytes left. It answers the value with the place after it,
-// or the refusal. A writer at a place stores what lies inside the buffer and nothing past its end.
+// or the refusal. A writer at a place stores what lies inside the buffer and nothing past its end. The place stands beside the slice, since it may lie
+// past the end: of `&s[at..]` or `&mut out[at..]` each caller would owe that it does not.
 #![tactic(auto)]
 
 pub mod error;
@@ -75,25 +76,21 @@ fn get_short(s: &[u8], at: usize, b: u64) -> Got<u64>
     Ok((value, next))
 }
 
-// The varint at place `at` of `s`, of any length.
+// The varint at place `at` of `s`, of any length. The loop has a fixed count of turns, so that the compiler knows each byte's weight.
 fn get_long(s: &[u8], at: usize) -> Got<u64>
     ensures { result ≡ get_u64 s.now at }
 {
+    if s.len() <= at {
+        return Err(Refusal::UnexpectedEof);
+    }
+    let left = s.len() - at;
     let mut value: u64 = 0;
     let mut unit: u64 = 1;
-    for p in at..s.len() {
-        let b = u64::from(s[p]);
-        let i = p - at;
-        if i == 9 {
-            // The tenth byte has room for one bit.
-            if b == 0 {
-                return Err(Refusal::VarintNotMinimal);
-            }
-            if b == 1 {
-                return Ok((value + unit, p + 1));
-            }
-            return Err(Refusal::VarintOverflow);
+    for i in 0..MAX_LEN - 1 {
+        if left <= i {
+            return Err(Refusal::UnexpectedEof);
         }
+        let b = u64::from(s[at + i]);
         if b < 128 {
             if b == 0 {
                 let padded = 0 < i;
@@ -101,12 +98,20 @@ fn get_long(s: &[u8], at: usize) -> Got<u64>
                     return Err(Refusal::VarintNotMinimal);
                 }
             }
-            return Ok((value + b * unit, p + 1));
+            return Ok((value + b * unit, at + i + 1));
         }
         value += (b - 128) * unit;
         unit *= 128;
     }
-    Err(Refusal::UnexpectedEof)
+    if left < MAX_LEN {
+        return Err(Refusal::UnexpectedEof);
+    }
+    // The tenth byte has room for one bit.
+    match s[at + 9] {
+        0 => Err(Refusal::VarintNotMinimal),
+        1 => Ok((value + unit, at + MAX_LEN)),
+        _ => Err(Refusal::VarintOverflow),
+    }
 }
 
 // How many bytes the varint of `value` has. It is compared with each power of 128, least first: most numbers are small, and

@@ -1,4 +1,4 @@
-// Runs of varints, one behind the other.
+// Runs of varints, one behind the other. The place stands beside the slice, since it may lie past the end, as in lib.rt.
 ghost use Rattle.std.specs.Prelude.{◌≡◌, ◌+◌, ◌≤◌, length, IfSome};
 ghost use Rattle.std.proofs.lemmas.List.Edits.{sets};
 ghost use Rattle.varint.specs.Runs.{end_of, values_of};

@@ -1,4 +1,4 @@
-// Signed numbers as varints (varint.rs): zigzag makes those near zero small.
+// Signed numbers as varints (varint.rs): zigzag makes those near zero small. The place stands beside the slice, since it may lie past the end, as in lib.rt.
 ghost use Rattle.std.specs.Prelude.{◌≡◌, length};
 ghost use Rattle.std.proofs.lemmas.List.Edits.{sets};
 ghost use Rattle.varint.specs.Leb128.{put_u64};

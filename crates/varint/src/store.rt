@@ -1,4 +1,4 @@
-// Storing into lent buffers. A store past a buffer's end does nothing, so none of these asks for room.
+// Storing into lent buffers. A store past a buffer's end does nothing, so none of these asks for room; nor that the place is inside, as `&mut out[at..]` would.
 ghost use Rattle.std.specs.Prelude.{◌≡◌, set};
 ghost use Rattle.std.proofs.lemmas.List.Edits.{sets};
 ghost use Rattle.varint.specs.Stores.{part, fill_from};

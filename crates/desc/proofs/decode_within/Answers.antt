@@ -48,4 +48,8 @@ pub returns : goal.returns
 returns c =
     let a = c.args in
     let m = c.in_ok-measured.measured in
-    decode_done a.text.now a.rows.now a.nodes.now a.max a.limit a.payload.now m.next m.text m.nodes _ _ _ _ _ _ _ c.if-max-length.false (sym c.measure_desc.ensures ∙ c.in_ok-measured.was) c.if-short.false c.if-nodes-numbers.false c.walk.ensures c.fill_from.ensures c.fill_from-2.ensures c.fill_from-3.ensures
+    let k = c.walk.ensures.kept in
+    let k₀ = k.0 in
+    let k₁ = k.1 in
+    let done = decode_done a.text.now a.rows.now a.nodes.now a.max a.limit a.payload.now m.next m.text m.nodes _ _ _ _ _ _ _ c.if-max-length.false (sym c.measure_desc.ensures ∙ c.in_ok-measured.was) c.if-short.false c.if-nodes-numbers.false c.walk.ensures.read c.fill_from.ensures c.fill_from-2.ensures c.fill_from-3.ensures in
+    search rules

@@ -1,6 +1,7 @@
 use mathlib.Core.Path.{sym, ◌∙◌}
 use Prim.Native.Nat.{◌+◌, ◌<◌}
 use native.Mathlib.Omega.{arith}
+use borrow.Author.Rules.{rules}
 use Rattle.std.proofs.lemmas.Result.{err_from_is_err_and}
 use Rattle.desc.proofs.FillLaws.{fill_early, fill_none, fill_done}
 use Rattle.desc.proofs.fill_desc.Goals.{else-t-at-via-then-t-at+else-n-at, else-t-at-via-else-t-at}
@@ -18,7 +19,12 @@ returns-then-n-at c =
     let f = sym c.measure_by.ensures ∙ c.in_ok-measured.was in
     let b = c.if-t-at.true in
     let d = c.if-n-at.true in
-    (sym f, fill_done c.args.text.now c.args.t c.args.nodes.now c.args.n c.args.limit c.args.s.now c.args.at m.next m.text m.nodes _ _ _ _ f (omega arith) c.walk.ensures)
+    let k = c.walk.ensures.kept in
+    let k₀ = k.0 in
+    let k₁ = k.1 in
+    let answer = sym f in
+    let done = fill_done c.args.text.now c.args.t c.args.nodes.now c.args.n c.args.limit c.args.s.now c.args.at m.next m.text m.nodes _ _ _ _ f (omega arith) c.walk.ensures.read in
+    search rules
 
 pub returns-else-t-at : goal.returns-else-t-at
 returns-else-t-at c =

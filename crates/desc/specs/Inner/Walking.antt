@@ -2,6 +2,7 @@
 use Rattle.std.specs.Prelude.{◌≡◌, List, ℕ, ◌+◌, ◌≤◌, length, Ok, Err, Result}
 use Rattle.varint.specs.Got.{Got}
 use Rattle.varint.specs.declared.error.Refusal.{Refusal}
+use Rattle.desc.specs.declared.Memory.{Memory}
 use Rattle.desc.specs.declared.Walked.{Walked}
 use Rattle.desc.specs.Decoding.{Stored, stored_as, walked_to}
 use Rattle.desc.specs.Layout.{NameSpan, texts}
@@ -22,3 +23,12 @@ outcome (Ok (tr, next)) tx t nd n name d = done next (t + length (texts tr)) (n 
 unfoldable pub Agrees : Outcome → ℕ → Result Walked Refusal → List ℕ → List ℕ → Type 0
 Agrees (refused e) end r tx nd = r ≡ Err e
 Agrees (done next t m c st) end r tx nd = (r ≡ Ok (walked_to next t m)) × (tx ≡ st.text) × (nd ≡ st.nodes) × (t + m ≤ next) × (next ≤ end)
+
+-- memory that is lent stays the same
+abbrev pub Keeps : Memory → Memory → Type 0
+Keeps before after = (after.text.ghost_name ≡ before.text.ghost_name) × (after.nodes.ghost_name ≡ before.nodes.ghost_name)
+
+-- the places past a descriptor, from the one in the bytes and the memory after it
+unfoldable pub reached : Result ℕ Refusal → Memory → Result Walked Refusal
+reached (Ok next) m = Ok (walked_to next m.t m.n)
+reached (Err e) m = Err e

@@ -9,15 +9,6 @@ returns-then-c-gt0 c =
     let p = c.requires in
     sym (get_two _ _ (omega arith) p.1 p.2 p.3 c.from-c.ensures c.if-c-lt128.true c.if-c-gt0.true)
 
-pub overflow_mul-result-then-d-gt0 : goal.overflow_mul-result-then-d-gt0
-overflow_mul-result-then-d-gt0 c = omega (arith, c.type_inv.s (c.args.at + 1))
-
-pub overflow_add-result-then-d-gt0 : goal.overflow_add-result-then-d-gt0
-overflow_add-result-then-d-gt0 c = omega (arith, c.type_inv.s (c.args.at + 1))
-
-pub overflow_add-result-then-d-gt0-2 : goal.overflow_add-result-then-d-gt0-2
-overflow_add-result-then-d-gt0-2 c = omega (arith, c.type_inv.s (c.args.at + 1))
-
 pub returns-then-d-gt0 : goal.returns-then-d-gt0
 returns-then-d-gt0 c =
     let p = c.requires in

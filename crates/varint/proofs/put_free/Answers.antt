@@ -1,11 +1,7 @@
 use mathlib.Core.Path.{refl}
 use native.Mathlib.Omega.{arith}
-use lib.ListN.{length-set}
 use Rattle.varint.proofs.PutSteps.{left_near, left_last, left_step, left_done}
 use Rattle.varint.proofs.put_free.Goals as goal
-
-pub loop-v-init : goal.loop-v-init
-loop-v-init c = record { size = refl; room = refl; same = refl }
 
 pub bounds-out-p : goal.bounds-out-p
 bounds-out-p c = omega (arith, left_near c.loop-v.invariant c.ranges.value.fits)
@@ -24,9 +20,6 @@ overflow_add-result c = omega (arith, left_near c.loop-v.invariant c.ranges.valu
 
 pub overflow_sub-result : goal.overflow_sub-result
 overflow_sub-result c = omega (arith, left_last c.loop-v.invariant c.loop-v-test.false)
-
-pub shape_of-out : goal.shape_of-out
-shape_of-out c = simp length-set c.loop-v.invariant.size
 
 pub returns : goal.returns
 returns c =

@@ -1,10 +1,7 @@
-use mathlib.Core.Path.{refl, sym, ◌∙◌}
+use mathlib.Core.Path.{sym, ◌∙◌}
 use Rattle.std.proofs.lemmas.Result.{err_from_is_err_and}
 use Rattle.desc.proofs.TableNames.{names_good, names_refused, names_end}
 use Rattle.desc.proofs.write.check_names.Goals as goal
-
-pub loop-m-init : goal.loop-m-init
-loop-m-init c = refl
 
 pub returns-in_err-check_name : goal.returns-in_err-check_name
 returns-in_err-check_name c =

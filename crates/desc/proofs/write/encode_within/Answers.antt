@@ -3,6 +3,7 @@ use Rattle.desc.specs.declared.write.Emitted.{Emitted}
 use Prim.Native.Nat.{◌<◌}
 use native.Mathlib.Omega.{arith}
 use lib.ListN.{length}
+use borrow.Author.Rules.{rules}
 use Rattle.std.proofs.lemmas.Result.{err_from_is_err_and}
 use Rattle.desc.proofs.EmitEncode.{encode_refused, encode_big, encode_small, encode_done}
 use Rattle.desc.proofs.EmitWhole.{layout_bad, names_bad, whole}
@@ -40,4 +41,6 @@ pub returns : goal.returns
 returns c =
     let a = c.args in
     let l : length a.out.now < 18446744073709551616 = omega arith in
-    encode_done a.max a.limit a.text.now a.nodes.now a.out.now _ _ (whole a.text.now a.nodes.now a.limit 0 _ c.size_desc.ensures _ _ _ c.in-Some.is c.check_names.ensures c.in_ok-check_names.was) c.if-max-place.false c.requires _ _ _ l c.if-out-place.false c.emit.ensures c.fill_from.ensures
+    let kept = c.emit.ensures.kept.0 in
+    let done = encode_done a.max a.limit a.text.now a.nodes.now a.out.now _ _ (whole a.text.now a.nodes.now a.limit 0 _ c.size_desc.ensures _ _ _ c.in-Some.is c.check_names.ensures c.in_ok-check_names.was) c.if-max-place.false c.requires _ _ _ l c.if-out-place.false c.emit.ensures.written c.fill_from.ensures in
+    search rules

@@ -1,9 +1,12 @@
-use mathlib.Core.Path.{sym, ◌∙◌}
-use Prim.Native.Nat.{◌≤◌}
+use mathlib.Core.Path.{sym, ap, ◌∙◌}
+use Prim.Native.Nat.{ℕ, ◌≤◌}
 use native.Mathlib.Omega.{arith}
 use lib.ListN.{length}
+use Rattle.std.specs.Prelude.{Option}
+use Rattle.desc.specs.Inner.Emission.{pen, told}
+use borrow.Author.Rules.{rules}
 use Rattle.desc.proofs.EmitPrint.{last}
-use Rattle.desc.proofs.EmitPut.{put_wrong, put_done, put_past}
+use Rattle.desc.proofs.EmitPut.{put_wrong, put_done, put_always, put_past}
 use Rattle.desc.proofs.write.put_desc.Goals as goal
 
 pub returns-then-out-at : goal.returns-then-out-at
@@ -16,5 +19,11 @@ returns-then-out-at c =
 pub returns-in_err-next : goal.returns-in_err-next
 returns-in_err-next c = rw c.from_residual.ensures (put_wrong _ _ _ (sym c.in_err-next.was ∙ c.size_desc.ensures))
 
+pub returns-in_err-next-2 : goal.returns-in_err-next-2
+returns-in_err-next-2 c = absurd (put_always _ _ _ _ (sym c.in_ok-next.was ∙ c.size_desc.ensures) (ap (λ (x : Option ℕ). told x (pen c.emit.new.self)) (sym c.in_err-next-2.was) ∙ c.emit.ensures.written))
+
 pub returns : goal.returns
-returns c = put_done _ _ _ _ _ (sym c.in_ok-next.was ∙ c.size_desc.ensures) c.emit.ensures
+returns c =
+    let done = put_done _ _ _ _ _ (ap (λ (x : Option ℕ). told x (pen c.emit.new.self)) (sym c.in_ok-next-2.was) ∙ c.emit.ensures.written) in
+    let kept = c.emit.ensures.kept.0 in
+    search rules

@@ -9,7 +9,7 @@ use Rattle.varint.specs.declared.error.Refusal.{Refusal}
 use Rattle.varint.specs.Leb128.{read_from}
 use Rattle.varint.proofs.ReadLaws.{tenth_more, end_zero, end_over, read_end}
 use Rattle.varint.proofs.ByteLoop.{Going, going_start, going_fits, going_at, going_last, going_last_fits, going_more}
-use Rattle.varint.proofs.RunLaws.{Filling, filling_from, filling_next, filling_bad, filling_done}
+use Rattle.varint.proofs.RunLaws.{Filling, filling_next, filling_bad, filling_done}
 use Rattle.varint.proofs.run.fill_run.Goals as goal
 use Rattle.std.specs.Prelude.{Err}
 
@@ -19,9 +19,6 @@ stopped : {s : List ℕ} {at count : ℕ} {d₀ d : List ℕ} {left p r value un
     → read_from (b ∷ drop (q + 1) s) q i value ≡ Err e
     → (Err e ≡ end_of count s at) × (d ≡ sets d₀ 0 (values_of count s at))
 stopped f h g k j a = filling_bad f h (going_at g k j ∙ a)
-
-pub loop-r-init : goal.loop-r-init
-loop-r-init c = filling_from _ _ _ _
 
 pub loop-p-init : goal.loop-p-init
 loop-p-init c = going_start _ _

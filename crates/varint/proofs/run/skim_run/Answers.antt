@@ -6,9 +6,6 @@ use Rattle.varint.specs.Runs.{end_of}
 use Rattle.varint.proofs.RunLaws.{end_none, end_on, end_off}
 use Rattle.varint.proofs.run.skim_run.Goals as goal
 
-pub loop-init : goal.loop-init
-loop-init c = let e : c.args.count ≡ c.args.count - 0 = omega arith in ap (λ n. end_of n c.args.s.now c.args.at) e
-
 pub returns-in_err-p : goal.returns-in_err-p
 returns-in_err-p c =
     let p = err_from_is_err_and c.from_residual.result c.from_residual.ensures.1 in

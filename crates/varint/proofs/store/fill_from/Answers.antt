@@ -1,10 +1,9 @@
-use mathlib.Core.Path.{◌≡◌, refl, sym, ◌∙◌, ap}
+use mathlib.Core.Path.{◌≡◌, sym, ◌∙◌, ap}
 use mathlib.Core.List.{List, [], append-nil}
 use Prim.Native.Nat.{ℕ, ◌-◌, ◌≤◌, ◌<◌}
 use native.Mathlib.Omega.{arith}
-use lib.ListN.{length, take, drop, replicate, length-set, length-drop, drop_of_length-le}
+use lib.ListN.{length, take, drop, replicate, length-drop, drop_of_length-le}
 use lib.Seq.{take_all}
-use Rattle.std.proofs.lemmas.List.{take_more_set, replicate_more}
 use borrow.Rule.Slice.PartMut.{put_mid}
 use Rattle.varint.specs.Stores.{fill_from}
 use Rattle.varint.proofs.store.fill_from.Goals as goal
@@ -25,19 +24,6 @@ filled x d items at n h s e t =
 past : {A : Type 0} (x : A) (d : List A) (at : ℕ) → length d ≤ at → d ≡ fill_from x d at
 unfolding fill_from
 past x d at h = let z : length d - at ≡ 0 = omega arith in rw (z, append-nil) (sym (take_all at d h))
-
-pub loop-place-init : goal.loop-place-init
-loop-place-init g c = record { room = omega arith; size = refl; done = refl }
-
-pub loop-place-preserved : goal.loop-place-preserved
-loop-place-preserved g c =
-    let l = c.loop-place in
-    let h : l.place-index < length l.place-items = omega (arith, c.loop-place-test.true, l.invariant.size) in
-    record {
-      room = rw length-set (omega arith);
-      size = length-set l.place-items l.place-index c.args.x ∙ l.invariant.size;
-      done = take_more_set l.place-items l.place-index c.args.x h ∙ rw l.invariant.done (replicate_more l.place-index c.args.x);
-    }
 
 pub returns-after-loop-place : goal.returns-after-loop-place
 returns-after-loop-place g c =

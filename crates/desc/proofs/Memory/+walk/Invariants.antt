@@ -1,0 +1,18 @@
+use mathlib.Core.Path.{◌≡◌}
+use Prim.Native.Nat.{◌+◌, ◌-◌, ◌≤◌}
+use lib.ListN.{length}
+use Rattle.desc.specs.Reading.{children, desc}
+use Rattle.desc.proofs.Outcomes.{outcome_kids}
+use Rattle.desc.specs.Inner.Walking.{Keeps}
+use Rattle.desc.proofs.Memory.+walk.Given as goal
+
+abbrev pub decreases-walk : goal.decreases-walk
+decreases-walk l = l.depth
+
+abbrev pub invariant-loop : goal.invariant-loop
+invariant-loop l =
+    Keeps l.initial.self l.self
+    × (l.self.t + l.self.n ≤ l.past)
+    × (l.past ≤ length l.s)
+    × (outcome_kids (children (desc l.check l.limit (l.depth - 1) l.s) l.check l.s l.tag l.count l.next) 0 l.initial.self.text.now l.initial.self.t l.initial.self.nodes.now l.initial.self.n
+    ≡ outcome_kids (children (desc l.check l.limit (l.depth - 1) l.s) l.check l.s l.tag (l.count - l.counter) l.past) l.counter l.self.text.now l.self.t l.self.nodes.now l.self.n)
