@@ -14,11 +14,11 @@ use Rattle.varint.specs.Stores.{part, clear_from, filled}
 use Rattle.varint.specs.declared.error.Buffer.TheVariants.{Text, Rows, Nodes}
 use Rattle.varint.specs.declared.error.Refusal.{Refusal}
 use Rattle.varint.specs.declared.error.Refusal.TheVariants.{BlockTooLarge, TooSmall}
-use Rattle.varint.proofs.Basics.{clash, both}
+use Rattle.varint.proofs.Basics.{clash, both, never}
 use Rattle.varint.proofs.StoreLaws.{part_all, filled_steps}
 use Rattle.protocol.specs.Decoding.{Left, kept, fitted, settled, decode_message}
 use Rattle.protocol.specs.Laying.{Laid}
-use Rattle.protocol.specs.Inner.Loading.{outcome, laid_as, told, bare, Reads, ReadsBare, ReadsEntry, found_with}
+use Rattle.protocol.specs.Inner.Loading.{outcome, laid_as, told, Reads, ReadsEntry, found_with, plainly, bare_left}
 use Rattle.protocol.specs.Said.{Said, opaque, read_entry, read_message, lay}
 use Rattle.protocol.specs.declared.message.Message.{Message}
 use Rattle.protocol.specs.declared.message.Message.TheVariants as Msg
@@ -91,12 +91,12 @@ module _ {tx rs nd tx₁ rs₁ nd₁ : List ℕ} {x : Result Found Refusal} wher
   first_refused : (g : Got Said) {e : Refusal} → Reads true (laid_as lay g) tx rs nd x tx₁ rs₁ nd₁ → x ≡ Err e → g ≡ Err e
   unfolding told outcome
   first_refused (Err r) h i = let e = tells h i in cc (e)
-  first_refused (Ok (m, q)) h i = let e = tells h i in let z : ◌≡◌ {A = ℕ} 0 1 = cc (e) in absurd (omega arith)
+  first_refused (Ok (m, q)) h i = let e = tells h i in never (cc (e))
 
   first_read : (g : Got Said) {message : Message} {t r k : ℕ} → Reads true (laid_as lay g) tx rs nd x tx₁ rs₁ nd₁ → x ≡ Ok (found_with message t r k)
       → Measured g message t r k
   unfolding told outcome
-  first_read (Err r) h i = let e = tells h i in let z : ◌≡◌ {A = ℕ} 0 1 = cc (e) in absurd (omega arith)
+  first_read (Err r) h i = let e = tells h i in never (cc (e))
   first_read (Ok (m, q)) h i =
       let e = tells h i in
       record { value = m; next = q; is = refl; says = cc (e); takes = record { text = cc (e); rows = cc (e); nodes = cc (e) } }
@@ -106,7 +106,7 @@ second_read : (l : Laid) (q : ℕ) (tx rs nd : List ℕ) {tx₁ rs₁ nd₁ : Li
     → (tx₁ ≡ sets tx 0 l.piece.text) × (rs₁ ≡ sets rs 0 (l.piece.rows 0 0)) × (nd₁ ≡ sets nd 0 (l.piece.nodes 0 0))
 unfolding told outcome
 second_read l q tx rs nd (Ok f) e = (cc, cc, cc)
-second_read l q tx rs nd (Err r) e = let z : ◌≡◌ {A = ℕ} 0 1 = cc in absurd (omega arith)
+second_read l q tx rs nd (Err r) e = never cc
 
 -- what takes no memory need not be stored
 sets_none : (d x : List ℕ) → length x ≡ 0 → d ≡ sets d 0 x
@@ -118,15 +118,6 @@ all_none t r k h =
     let a = both (eqb t 0 && eqb r 0) (eqb k 0) h in
     let b = both (eqb t 0) (eqb r 0) a.0 in
     (eqb-true t 0 b.0, eqb-true r 0 b.1, eqb-true k 0 a.1)
-
--- a message of numbers alone takes none
-bare_takes : (g : Got Laid) {x : Result Found Refusal} {message : Message} {t r k : ℕ} → ReadsBare g x → x ≡ Ok (found_with message t r k) → (t ≡ 0) × (r ≡ 0) × (k ≡ 0)
-unfolding bare
-bare_takes (Ok (l, q)) {message = message} {t} {r} {k} h i =
-    let e = sym i ∙ h.is in
-    let f : found_with message t r k ≡ found_with l.message 0 0 0 = cc (e) in
-    (ap (λ (y : Found). y.text) f, ap (λ (y : Found). y.rows) f, ap (λ (y : Found). y.nodes) f)
-bare_takes (Err r) h i = let e = sym i ∙ h.is in let z : ◌≡◌ {A = ℕ} 0 1 = cc (e) in absurd (omega arith)
 
 -- Which entries name a message
 
@@ -183,6 +174,9 @@ module _ (max limit entry : ℕ) (s tx rs nd : List ℕ) where
     unfolding decode_message read_message
     settles = rw (le-ltb max (length s) short, and-false (names entry))
 
+    once : {x : Result Message Refusal} → ReadsEntry entry s x → Reads true (laid_as lay (read_entry true limit entry s)) tx rs nd (plainly x) tx rs nd
+    once h = (bare_text true tx (laid_as lay (read_entry true limit entry s)) (h.empty limit) (h.reads limit)).is rs nd
+
     module _ {tx₀ rs₀ nd₀ tx₀' rs₀' nd₀' : List ℕ} {x₁ : Result Found Refusal}
         (first : Reads true (laid_as lay (read_entry true limit entry s)) tx₀ rs₀ nd₀ x₁ tx₀' rs₀' nd₀') where
       pub decode_refused : {e : Refusal} → x₁ ≡ Err e → Decoded (kept e tx rs nd)
@@ -227,15 +221,15 @@ module _ (max limit entry : ℕ) (s tx rs nd : List ℕ) where
             (e ∙ ap (clear_from tx) (sym a)) (f ∙ ap (clear_from rs) (sym b)) (g ∙ ap (clear_from nd) (sym c))
             ∙ read_fitted)
 
-    -- a message of numbers alone is read once
-    module _ {x : Result Found Refusal} (h : ReadsEntry entry s x) where
-      once : Reads true (laid_as lay (read_entry true limit entry s)) tx rs nd x tx rs nd
-      once = (bare_text true tx (laid_as lay (read_entry true limit entry s)) (h.empty limit) (h.reads limit)).is rs nd
-
+    -- a message of numbers alone is read once, and takes none
+    module _ {x : Result Message Refusal} (h : ReadsEntry entry s x) where
       pub decode_bare_refused : {e : Refusal} → x ≡ Err e → Decoded (kept e tx rs nd)
-      decode_bare_refused i = decode_refused once i
+      decode_bare_refused i = decode_refused (once h) (ap plainly i)
 
-      pub decode_bare_read : {message : Message} {t r k : ℕ} → x ≡ Ok (found_with message t r k) → {tx₂ rs₂ nd₂ : List ℕ}
-          → tx₂ ≡ clear_from tx 0 → rs₂ ≡ clear_from rs 0 → nd₂ ≡ clear_from nd 0
+      pub decode_bare_read : {message : Message} → x ≡ Ok message → {tx₂ rs₂ nd₂ : List ℕ} → tx₂ ≡ clear_from tx 0 → rs₂ ≡ clear_from rs 0 → nd₂ ≡ clear_from nd 0
           → Decoded (record { answer = Ok message; text = tx₂; rows = rs₂; nodes = nd₂ })
-      decode_bare_read i e f g = let z = bare_takes (laid_as lay (read_entry true limit entry s)) (h.reads limit) i in decode_none once i z.0 z.1 z.2 e f g
+      decode_bare_read i e f g = decode_none (once h) (ap plainly i) refl refl refl e f g
+
+    pub decode_bare_lem : {x : Result Message Refusal} → ReadsEntry entry s x → Decoded (bare_left x tx rs nd)
+    decode_bare_lem {x = Ok m} h = decode_bare_read h refl refl refl refl
+    decode_bare_lem {x = Err e} h = decode_bare_refused h refl

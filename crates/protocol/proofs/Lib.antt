@@ -1,5 +1,6 @@
 pub mod DecodeLaws
 pub mod DescLoads
+pub mod EntryLaws
 pub mod FieldEnds
 pub mod Knows
 pub mod MessageFields

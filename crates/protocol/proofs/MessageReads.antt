@@ -1,6 +1,5 @@
 -- A message that was read, or not, as its reader tells it.
 use mathlib.Core.Bool.{Bool, true, false}
-use mathlib.Core.Logic.{⊎_elim}
 use mathlib.Core.Path.{◌≡◌, refl, sym, ap, ◌∙◌}
 use mathlib.Core.List.{List}
 use Prim.Native.Nat.{ℕ, ◌+◌, ◌-◌}
@@ -14,17 +13,19 @@ use Rattle.varint.specs.declared.error.Refusal.TheVariants.{TrailingBytes}
 use Rattle.varint.proofs.FormatParts.{went}
 use Rattle.varint.proofs.Gots.{got_of, no_got}
 use Rattle.protocol.specs.Laying.{Laid}
-use Rattle.protocol.specs.Inner.Loading.{stored, outcome, laid_as, told, bare, ReadsBare, ReadsText, ReadsEntry, BareEntry, lay_finished, found_with}
+use Rattle.protocol.specs.Inner.Loading.{stored, outcome, laid_as, told, bare, ReadsBare, ReadsText, ReadsEntry, lay_finished, found_with, plainly}
 use Rattle.protocol.specs.Pieces.{none, words, ◌⊕◌}
 use Rattle.protocol.specs.Reply.{removed, finish, lay_reply}
 use Rattle.protocol.specs.Said.{Said, saying, read_entry, lay}
 use Rattle.protocol.specs.Wholes.{ended}
+use Rattle.protocol.specs.declared.message.Message.{Message}
 use Rattle.protocol.specs.declared.read.Found.{Found}
 use Rattle.protocol.proofs.RowStores.{stored_none, stored_append}
 use Rattle.std.specs.Prelude.{Ok, Err, Result}
 
 -- a message that has none of them if it is read
-pub bare_text : (check : Bool) (tx : List ℕ) (g : Got Laid) {x : Result Found Refusal} → ((l : Laid) (q : ℕ) → g ≡ Ok (l, q) → l.piece ≡ none) → ReadsBare g x → ReadsText check g tx x tx
+pub bare_text : (check : Bool) (tx : List ℕ) (g : Got Laid) {x : Result Message Refusal} → ((l : Laid) (q : ℕ) → g ≡ Ok (l, q) → l.piece ≡ none) → ReadsBare g x
+    → ReadsText check g tx (plainly x) tx
 unfolding bare told outcome
 bare_text check tx (Ok (l, q)) z e =
     record { is = λ rs nd. record { is = rw (e.is, z l q refl, stored_none check tx 0, stored_none check rs 0, stored_none check nd 0) } }
@@ -70,12 +71,9 @@ laid_bare lay_a none_is g l q e =
     let w = went g (λ a o. Ok (lay_a a, o)) l q e in
     rw (← (got_of w.rest).0) (none_is w.value)
 
-pub last_bare : {e : ℕ} → BareEntry e → (e ≡ 2 → ⊥) → (e ≡ 4 → ⊥) → e ≡ 12
-last_bare h a b = ⊎_elim (λ z. absurd (a z)) (⊎_elim (λ z. absurd (b z)) (λ z. z)) h
-
 -- a message of numbers alone, by the entry that names it
 pub entry_bare : {A : Type 0} (to : A → Said) (lay_a : A → Laid) → ((a : A) → lay (to a) ≡ lay_a a) → ((a : A) → (lay_a a).piece ≡ none)
-    → {entry : ℕ} {s : List ℕ} {x : Result Found Refusal} (g : Got A) → ((limit : ℕ) → read_entry true limit entry s ≡ saying to g)
+    → {entry : ℕ} {s : List ℕ} {x : Result Message Refusal} (g : Got A) → ((limit : ℕ) → read_entry true limit entry s ≡ saying to g)
     → ReadsBare (laid_as lay_a g) x → ReadsEntry entry s x
 entry_bare to lay_a same none_is {entry} {s} g h r =
     let e : (limit : ℕ) → laid_as lay (read_entry true limit entry s) ≡ laid_as lay_a g = λ limit. ap (laid_as lay) (h limit) ∙ said_laid to lay_a same g in

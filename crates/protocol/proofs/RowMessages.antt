@@ -4,7 +4,6 @@ use mathlib.Core.Path.{◌≡◌, refl, sym, ◌∙◌, ap}
 use mathlib.Core.List.{List, [], ◌∷◌}
 use Prim.Native.Nat.{ℕ, ◌+◌, ◌*◌}
 use native.Mathlib.Nat.{zero-add}
-use native.Mathlib.Omega.{arith}
 use lib.ListN.{length}
 use Rattle.varint.specs.Got.{Got}
 use Rattle.varint.specs.Formats.{Format, varint, read_times}
@@ -13,28 +12,33 @@ use Rattle.varint.specs.Runs.{end_of, values_of}
 use Rattle.varint.proofs.FormatParts.{times_length}
 use Rattle.varint.proofs.RunLaws.{got_run, times_run}
 use Rattle.desc.specs.Layout.{width}
-use Rattle.desc.specs.declared.Walked.{Walked}
-use Rattle.protocol.specs.Fetch.{pair}
 use Rattle.protocol.specs.Ids.{lay_id}
 use Rattle.protocol.specs.Laying.{Laid}
-use Rattle.protocol.specs.Inner.Loading.{stored, Mem, put, loaded, failed, load, load_rows, told_row, LoadsRows, outcome, told, Reads, found_with}
+use Rattle.protocol.specs.Inner.Loading.{stored, Mem, mem, Empty, put, loaded, failed, load, row, lay_row, load_rows, told_row, outcome, told, Reads, found_with}
 use Rattle.protocol.specs.Pieces.{Piece, many}
-use Rattle.protocol.specs.Profile.{step, lay_step}
-use Rattle.protocol.specs.Startup.{claim, lay_claim}
-use Rattle.protocol.specs.Types.{predicate, lay_predicate}
-use Rattle.protocol.specs.declared.message.RowKind.TheVariants as K
+use Rattle.protocol.specs.declared.message.RowKind.{RowKind}
+use Rattle.protocol.specs.declared.memory.Memory.{Memory}
 use Rattle.protocol.specs.declared.read.Found.{Found}
 use Rattle.protocol.proofs.PieceLaws.{Seven, join_seven}
-use Rattle.protocol.proofs.RowEnds.{predicate_nodes}
 use Rattle.protocol.proofs.RowStores.{stored_none}
-use Rattle.protocol.proofs.RowsLoop.{mem}
+use Rattle.protocol.proofs.RowsLaws.{row_seven}
 use Rattle.std.specs.Prelude.{Result, Ok, Err}
-use Rattle.desc.specs.Decoding.{walked_to}
+use Rattle.varint.proofs.Basics.{never}
 
 many_seven : {A : Type 0} (piece : A → Piece) → ((a : A) → Seven (piece a)) → (l : List A) → Seven (many piece l)
 unfolding many
 many_seven piece h [] t n = refl
 many_seven piece h (a ∷ l) t n = join_seven (piece a) (many piece l) (h a) (many_seven piece h l) t n
+
+-- memory of which so much is taken
+abbrev pub at_mem : List ℕ → ℕ → List ℕ → ℕ → List ℕ → ℕ → Mem
+at_mem tx t rs r nd n = record { text = tx; t = t; rows = rs; r = r; nodes = nd; n = n }
+
+pub from_start : (m : Memory) → Empty m → mem m ≡ at_mem m.text.now 0 m.rows.now 0 m.nodes.now 0
+from_start m e = λ i. at_mem m.text.now (e.0 i) m.rows.now (e.1 i) m.nodes.now (e.2 i)
+
+pub after_text : (m : Memory) → m.r ≡ 0 → m.n ≡ 0 → mem m ≡ at_mem m.text.now m.t m.rows.now 0 m.nodes.now 0
+after_text m e f = λ i. at_mem m.text.now m.t m.rows.now (e i) m.nodes.now (f i)
 
 -- the rows that were read, and what they left
 pub record Rows {A : Type 0} (f : Format A) (piece : A → Piece) (check : Bool) (count : ℕ) (s : List ℕ) (at : ℕ) (tx : List ℕ) (t : ℕ) (rs nd : List ℕ)
@@ -51,13 +55,13 @@ pub record Rows {A : Type 0} (f : Format A) (piece : A → Piece) (check : Bool)
 
 rows_of : {A : Type 0} (f : Format A) (piece : A → Piece) → ((a : A) → Seven (piece a)) → (check : Bool) (count : ℕ) (s : List ℕ) (at : ℕ) (tx : List ℕ) (t : ℕ) (rs nd : List ℕ)
     (next u k m : ℕ) (tx' rs' nd' : List ℕ) (g : Got (List A)) → read_times f count s at ≡ g
-    → loaded next (mem tx' u rs' k nd' m) ≡ load check (many piece) g (mem tx t rs 0 nd 0)
+    → loaded next (at_mem tx' u rs' k nd' m) ≡ load check (many piece) g (at_mem tx t rs 0 nd 0)
     → Rows f piece check count s at tx t rs nd next u k m tx' rs' nd'
 unfolding load
-rows_of f piece seven check count s at tx t rs nd next u k m tx' rs' nd' (Err e) i h = let z : ◌≡◌ {A = ℕ} 0 1 = cc in absurd (omega arith)
+rows_of f piece seven check count s at tx t rs nd next u k m tx' rs' nd' (Err e) i h = never cc
 rows_of f piece seven check count s at tx t rs nd next u k m tx' rs' nd' (Ok (l, q)) i h =
     let p : next ≡ q = cc in
-    let e : mem tx' u rs' k nd' m ≡ put check (many piece l) (mem tx t rs 0 nd 0) = cc in
+    let e : at_mem tx' u rs' k nd' m ≡ put check (many piece l) (at_mem tx t rs 0 nd 0) = cc in
     let n : m ≡ (many piece l).size = ap (λ (y : Mem). y.n) e ∙ zero-add _ in
     record {
       list = l;
@@ -74,45 +78,18 @@ rows_of f piece seven check count s at tx t rs nd next u k m tx' rs' nd' (Ok (l,
 rows_bad : {A : Type 0} (f : Format A) (piece : A → Piece) (check : Bool) (count : ℕ) (s : List ℕ) (at : ℕ) (m : Mem) (e : Refusal) (g : Got (List A))
     → read_times f count s at ≡ g → failed e ≡ load check (many piece) g m → read_times f count s at ≡ Err e
 unfolding load
-rows_bad f piece check count s at m e (Ok (l, q)) i h = let z : ◌≡◌ {A = ℕ} 0 1 = cc in absurd (omega arith)
+rows_bad f piece check count s at m e (Ok (l, q)) i h = never cc
 rows_bad f piece check count s at m e (Err x) i h = let z : x ≡ e = cc in i ∙ ap Err z
 
-module _ {check : Bool} {limit count : ℕ} {s : List ℕ} {at : ℕ} {tx : List ℕ} {t : ℕ} {rs nd : List ℕ} {k : ℕ} {x : Result Walked Refusal} {tx' rs' nd' : List ℕ} where
-  pub claims_went : LoadsRows K.Claim check limit count s at tx t rs nd k x tx' rs' nd' → {next u m : ℕ} → x ≡ Ok (walked_to next u m)
-      → Rows (claim check) lay_claim check count s at tx t rs nd next u k m tx' rs' nd'
+module _ (kind : RowKind) (check : Bool) (limit count : ℕ) (s : List ℕ) (at : ℕ) (tx : List ℕ) (t : ℕ) (rs nd : List ℕ) (x : Result ℕ Refusal) (m m' : Mem)
+    (from : m ≡ at_mem tx t rs 0 nd 0) (h : told_row x m' ≡ load_rows kind check limit count s at m) where
+  pub rows_went : {next : ℕ} → x ≡ Ok next → Rows (row kind check limit) (lay_row kind) check count s at tx t rs nd next m'.t m'.r m'.n m'.text m'.rows m'.nodes
   unfolding told_row load_rows
-  claims_went h {next} {u} {m} i = rows_of (claim check) lay_claim (λ c u n. refl) check count s at tx t rs nd next u k m tx' rs' nd' _ refl (rw i at h.is)
+  rows_went {next} i = rows_of (row kind check limit) (lay_row kind) (row_seven kind) check count s at tx t rs nd next _ _ _ _ _ _ _ refl (rw (i, from) at h)
 
-  pub no_claims : LoadsRows K.Claim check limit count s at tx t rs nd k x tx' rs' nd' → {e : Refusal} → x ≡ Err e → read_times (claim check) count s at ≡ Err e
+  pub no_rows : {e : Refusal} → x ≡ Err e → read_times (row kind check limit) count s at ≡ Err e
   unfolding told_row load_rows
-  no_claims h {e} i = rows_bad (claim check) lay_claim check count s at (mem tx t rs 0 nd 0) e _ refl (rw i at h.is)
-
-  pub types_went : LoadsRows K.Predicate check limit count s at tx t rs nd k x tx' rs' nd' → {next u m : ℕ} → x ≡ Ok (walked_to next u m)
-      → Rows (predicate check limit) lay_predicate check count s at tx t rs nd next u k m tx' rs' nd'
-  unfolding told_row load_rows
-  types_went h {next} {u} {m} i = rows_of (predicate check limit) lay_predicate predicate_nodes check count s at tx t rs nd next u k m tx' rs' nd' _ refl (rw i at h.is)
-
-  pub no_types : LoadsRows K.Predicate check limit count s at tx t rs nd k x tx' rs' nd' → {e : Refusal} → x ≡ Err e → read_times (predicate check limit) count s at ≡ Err e
-  unfolding told_row load_rows
-  no_types h {e} i = rows_bad (predicate check limit) lay_predicate check count s at (mem tx t rs 0 nd 0) e _ refl (rw i at h.is)
-
-  pub steps_went : LoadsRows K.Step check limit count s at tx t rs nd k x tx' rs' nd' → {next u m : ℕ} → x ≡ Ok (walked_to next u m)
-      → Rows (step check) lay_step check count s at tx t rs nd next u k m tx' rs' nd'
-  unfolding told_row load_rows
-  steps_went h {next} {u} {m} i = rows_of (step check) lay_step (λ c u n. refl) check count s at tx t rs nd next u k m tx' rs' nd' _ refl (rw i at h.is)
-
-  pub no_steps : LoadsRows K.Step check limit count s at tx t rs nd k x tx' rs' nd' → {e : Refusal} → x ≡ Err e → read_times (step check) count s at ≡ Err e
-  unfolding told_row load_rows
-  no_steps h {e} i = rows_bad (step check) lay_step check count s at (mem tx t rs 0 nd 0) e _ refl (rw i at h.is)
-
-  pub pairs_went : LoadsRows K.Pair check limit count s at tx t rs nd k x tx' rs' nd' → {next u m : ℕ} → x ≡ Ok (walked_to next u m)
-      → Rows pair lay_id check count s at tx t rs nd next u k m tx' rs' nd'
-  unfolding told_row load_rows
-  pairs_went h {next} {u} {m} i = rows_of pair lay_id (λ c u n. refl) check count s at tx t rs nd next u k m tx' rs' nd' _ refl (rw i at h.is)
-
-  pub no_pairs : LoadsRows K.Pair check limit count s at tx t rs nd k x tx' rs' nd' → {e : Refusal} → x ≡ Err e → read_times pair count s at ≡ Err e
-  unfolding told_row load_rows
-  no_pairs h {e} i = rows_bad pair lay_id check count s at (mem tx t rs 0 nd 0) e _ refl (rw i at h.is)
+  no_rows {e} i = rows_bad (row kind check limit) (lay_row kind) check count s at (at_mem tx t rs 0 nd 0) e _ refl (rw (i, from) at h)
 
 -- ids have numbers alone: their rows are the ids themselves
 ids_text : (l : List ℕ) → (many lay_id l).text ≡ []

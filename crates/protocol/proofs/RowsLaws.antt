@@ -1,33 +1,35 @@
 -- Rows of every kind, one after the other.
 use mathlib.Core.Bool.{Bool}
 use mathlib.Core.Path.{◌≡◌, refl, ap}
-use mathlib.Core.List.{List, ◌∷◌}
+use mathlib.Core.List.{List, [], ◌∷◌}
 use Prim.Native.Nat.{ℕ, suc, ◌+◌, ◌*◌, ◌≤◌, ◌<◌}
 use native.Mathlib.Omega.{arith}
 use lib.ListN.{length}
 use Rattle.varint.specs.Got.{Got, then}
-use Rattle.varint.specs.Formats.{Format, varint, read_times}
+use Rattle.varint.specs.Formats.{Format, read_times}
 use Rattle.varint.specs.declared.error.Refusal.{Refusal}
 use Rattle.varint.proofs.FormatEnds.{Ends, varint_ends}
-use Rattle.protocol.specs.Fetch.{pair}
+use Rattle.desc.specs.Trees.{Tree}
+use Rattle.protocol.specs.Fields.{bit, Optional, absent, present}
 use Rattle.protocol.specs.Ids.{lay_id}
-use Rattle.protocol.specs.Inner.Loading.{Mem, put, loaded, failed, load, load_row, load_rows}
-use Rattle.protocol.specs.Pieces.{Piece, many}
-use Rattle.protocol.specs.Profile.{step, lay_step}
+use Rattle.protocol.specs.Inner.Loading.{Mem, put, loaded, failed, load, Row, row, lay_row, load_row, load_rows}
+use Rattle.protocol.specs.Pieces.{Piece, cells, words, tree, ◌⊕◌, many}
+use Rattle.protocol.specs.Profile.{lay_step}
 use Rattle.protocol.specs.Rows.{width_of}
-use Rattle.protocol.specs.Startup.{claim, lay_claim}
-use Rattle.protocol.specs.Types.{predicate, lay_predicate}
+use Rattle.protocol.specs.Startup.{lay_claim}
+use Rattle.protocol.specs.Types.{Predicate, has_value, lay_value, lay_predicate}
 use Rattle.protocol.specs.declared.message.RowKind.{RowKind}
-use Rattle.protocol.specs.declared.message.RowKind.TheVariants.{Claim, Id, Predicate, Step, Pair}
+use Rattle.protocol.specs.declared.message.RowKind.TheVariants as K
 use Rattle.protocol.proofs.PieceLaws.{Seven, put_none, put_join}
 use Rattle.protocol.proofs.RowEnds.{weight, claim_ends, step_ends, fact_ends, predicate_ends, predicate_nodes}
 use Rattle.std.specs.Prelude.{Ok, Err}
+use Rattle.varint.proofs.Basics.{never}
 
 module _ {A : Type 0} (f : Format A) (piece : A → Piece) (check : Bool) (s : List ℕ) where
   some : (n at : ℕ) (m m' : Mem) (q : ℕ) → ((a : A) → Seven (piece a)) → (x : Got A) → f.read s at ≡ x → load check piece x m ≡ loaded q m'
       → load check (many piece) (read_times f (suc n) s at) m ≡ load check (many piece) (read_times f n s q) m'
   unfolding load read_times many
-  some n at m m' q seven (Err e) i h = let z : ◌≡◌ {A = ℕ} 0 1 = cc in absurd (omega arith)
+  some n at m m' q seven (Err e) i h = never cc
   some n at m m' q seven (Ok (a, o)) i h =
       let k : o ≡ q = cc in
       let l : put check (piece a) m ≡ m' = cc in
@@ -44,35 +46,31 @@ module _ {A : Type 0} (f : Format A) (piece : A → Piece) (check : Bool) (s : L
   no_more : (n at : ℕ) (m : Mem) (e : Refusal) (x : Got A) → f.read s at ≡ x → load check piece x m ≡ failed e
       → load check (many piece) (read_times f (suc n) s at) m ≡ failed e
   unfolding load read_times
-  no_more n at m e (Ok (a, o)) i h = let z : ◌≡◌ {A = ℕ} 0 1 = cc in absurd (omega arith)
+  no_more n at m e (Ok (a, o)) i h = never cc
   no_more n at m e (Err x) i h = rw i h
 
 -- each kind of row
-pub rows_more : (kind : RowKind) (check : Bool) (limit n : ℕ) (s : List ℕ) (at q : ℕ) (m m' : Mem) → load_row kind check limit s at m ≡ loaded q m'
-    → load_rows kind check limit (suc n) s at m ≡ load_rows kind check limit n s q m'
-unfolding load_row load_rows
-rows_more Claim check limit n s at q m m' h = some (claim check) lay_claim check s n at m m' q (λ c t o. refl) _ refl h
-rows_more Id check limit n s at q m m' h = some varint lay_id check s n at m m' q (λ c t o. refl) _ refl h
-rows_more Predicate check limit n s at q m m' h = some (predicate check limit) lay_predicate check s n at m m' q predicate_nodes _ refl h
-rows_more Step check limit n s at q m m' h = some (step check) lay_step check s n at m m' q (λ c t o. refl) _ refl h
-rows_more Pair check limit n s at q m m' h = some pair lay_id check s n at m m' q (λ c t o. refl) _ refl h
+pub row_seven : (kind : RowKind) (a : Row kind) → Seven (lay_row kind a)
+row_seven K.Claim a t n = refl
+row_seven K.Id a t n = refl
+row_seven K.Predicate a t n = predicate_nodes a t n
+row_seven K.Step a t n = refl
+row_seven K.Pair a t n = refl
 
-pub rows_none : (kind : RowKind) (check : Bool) (limit : ℕ) (s : List ℕ) (at : ℕ) (m : Mem) → load_rows kind check limit 0 s at m ≡ loaded at m
-unfolding load_rows
-rows_none Claim check limit s at m = none_left (claim check) lay_claim check s at m
-rows_none Id check limit s at m = none_left varint lay_id check s at m
-rows_none Predicate check limit s at m = none_left (predicate check limit) lay_predicate check s at m
-rows_none Step check limit s at m = none_left (step check) lay_step check s at m
-rows_none Pair check limit s at m = none_left pair lay_id check s at m
+module _ (kind : RowKind) (check : Bool) (limit : ℕ) where
+  pub rows_more : (n : ℕ) (s : List ℕ) (at q : ℕ) (m m' : Mem) → load_row kind check limit s at m ≡ loaded q m'
+      → load_rows kind check limit (suc n) s at m ≡ load_rows kind check limit n s q m'
+  unfolding load_row load_rows
+  rows_more n s at q m m' h = some (row kind check limit) (lay_row kind) check s n at m m' q (row_seven kind) _ refl h
 
-pub rows_failed : (kind : RowKind) (check : Bool) (limit n : ℕ) (s : List ℕ) (at : ℕ) (m : Mem) (e : Refusal) → load_row kind check limit s at m ≡ failed e
-    → load_rows kind check limit (suc n) s at m ≡ failed e
-unfolding load_row load_rows
-rows_failed Claim check limit n s at m e h = no_more (claim check) lay_claim check s n at m e _ refl h
-rows_failed Id check limit n s at m e h = no_more varint lay_id check s n at m e _ refl h
-rows_failed Predicate check limit n s at m e h = no_more (predicate check limit) lay_predicate check s n at m e _ refl h
-rows_failed Step check limit n s at m e h = no_more (step check) lay_step check s n at m e _ refl h
-rows_failed Pair check limit n s at m e h = no_more pair lay_id check s n at m e _ refl h
+  pub rows_none : (s : List ℕ) (at : ℕ) (m : Mem) → load_rows kind check limit 0 s at m ≡ loaded at m
+  unfolding load_rows
+  rows_none s at m = none_left (row kind check limit) (lay_row kind) check s at m
+
+  pub rows_failed : (n : ℕ) (s : List ℕ) (at : ℕ) (m : Mem) (e : Refusal) → load_row kind check limit s at m ≡ failed e
+      → load_rows kind check limit (suc n) s at m ≡ failed e
+  unfolding load_row load_rows
+  rows_failed n s at m e h = no_more (row kind check limit) (lay_row kind) check s n at m e _ refl h
 
 -- what a row takes of the bytes, and of memory
 pub record Took (s : List ℕ) (at q w : ℕ) (m m' : Mem) : Type 0 where
@@ -80,12 +78,14 @@ pub record Took (s : List ℕ) (at q w : ℕ) (m m' : Mem) : Type 0 where
   pub inside : q ≤ length s
   pub texts : at + (m'.t + m'.n) ≤ q + (m.t + m.n)
   pub numbers : w + 2 * at ≤ 2 * q
+  pub rows : m'.r ≡ m.r + w
 
 took : {A : Type 0} {f : Format A} {k : ℕ} (piece : A → Piece) (check : Bool) (w : ℕ) → Ends f (λ a. weight (piece a)) k → 0 < k → w ≤ 2 * k
+    → ((a : A) (t n : ℕ) → length ((piece a).rows t n) ≡ w)
     → (s : List ℕ) (at q : ℕ) (m m' : Mem) → at ≤ length s → (x : Got A) → f.read s at ≡ x → load check piece x m ≡ loaded q m' → Took s at q w m m'
 unfolding load
-took piece check w F z l s at q m m' h (Err e) i g = let c : ◌≡◌ {A = ℕ} 0 1 = cc in absurd (omega arith)
-took piece check w F z l s at q m m' h (Ok (a, o)) i g =
+took piece check w F z l wide s at q m m' h (Err e) i g = never cc
+took piece check w F z l wide s at q m m' h (Ok (a, o)) i g =
     let b = F.ends s at a o h i in
     let b₀ = b.0 in
     let b₁ = b.1 in
@@ -93,13 +93,22 @@ took piece check w F z l s at q m m' h (Ok (a, o)) i g =
     let y : put check (piece a) m ≡ m' = cc in
     let t : m.t + length (piece a).text ≡ m'.t = ap (λ (u : Mem). u.t) y in
     let n : m.n + (piece a).size ≡ m'.n = ap (λ (u : Mem). u.n) y in
-    record { on = omega arith; inside = omega arith; texts = omega arith; numbers = omega arith }
+    let r : m.r + length ((piece a).rows m.t m.n) ≡ m'.r = ap (λ (u : Mem). u.r) y in
+    let e = wide a m.t m.n in
+    record { on = omega arith; inside = omega arith; texts = omega arith; numbers = omega arith; rows = omega arith }
+
+type_wide : (p : Predicate) (t n : ℕ) → length ((lay_predicate p).rows t n) ≡ 6
+type_wide p t n = go p.value
+  where
+    go : (o : Optional (Tree (List ℕ))) → length ((cells (λ t n. p.id ∷ t ∷ length p.name ∷ bit p.virtual ∷ bit (has_value p.value) ∷ n ∷ []) ⊕ words p.name ⊕ tree p.key ⊕ lay_value o).rows t n) ≡ 6
+    go absent = refl
+    go (present v) = refl
 
 pub row_took : (kind : RowKind) (check : Bool) (limit : ℕ) (s : List ℕ) (at q : ℕ) (m m' : Mem) → at ≤ length s → load_row kind check limit s at m ≡ loaded q m'
     → Took s at q (width_of kind) m m'
 unfolding load_row
-row_took Claim check limit s at q m m' h g = took lay_claim check 3 (claim_ends check) (omega arith) (omega arith) s at q m m' h _ refl g
-row_took Id check limit s at q m m' h g = took lay_id check 1 varint_ends (omega arith) (omega arith) s at q m m' h _ refl g
-row_took Predicate check limit s at q m m' h g = took lay_predicate check 6 (predicate_ends check limit) (omega arith) (omega arith) s at q m m' h _ refl g
-row_took Step check limit s at q m m' h g = took lay_step check 4 (step_ends check) (omega arith) (omega arith) s at q m m' h _ refl g
-row_took Pair check limit s at q m m' h g = took lay_id check 1 fact_ends (omega arith) (omega arith) s at q m m' h _ refl g
+row_took K.Claim check limit s at q m m' h g = took lay_claim check 3 (claim_ends check) (omega arith) (omega arith) (λ a t n. refl) s at q m m' h _ refl g
+row_took K.Id check limit s at q m m' h g = took lay_id check 1 varint_ends (omega arith) (omega arith) (λ a t n. refl) s at q m m' h _ refl g
+row_took K.Predicate check limit s at q m m' h g = took lay_predicate check 6 (predicate_ends check limit) (omega arith) (omega arith) type_wide s at q m m' h _ refl g
+row_took K.Step check limit s at q m m' h g = took lay_step check 4 (step_ends check) (omega arith) (omega arith) (λ a t n. refl) s at q m m' h _ refl g
+row_took K.Pair check limit s at q m m' h g = took lay_id check 1 fact_ends (omega arith) (omega arith) (λ a t n. refl) s at q m m' h _ refl g

@@ -2,7 +2,7 @@
 use mathlib.Core.Bool.{Bool, true, false}
 use mathlib.Core.Path.{◌≡◌, refl, ◌∙◌}
 use mathlib.Core.List.{List}
-use Prim.Native.Nat.{ℕ, ◌-◌, ◌*◌, ◌≤◌, ◌<◌}
+use Prim.Native.Nat.{ℕ, ◌+◌, ◌-◌, ◌*◌, ◌≤◌, ◌<◌}
 use native.Mathlib.Nat.{zero-add}
 use borrow.Author.Tests.{le-ltb, le-leb, lt-leb}
 use lib.Dec.{ltb}
@@ -17,7 +17,7 @@ use Rattle.varint.specs.declared.error.Refusal.TheVariants.{TrailingBytes, TypeM
 use Rattle.desc.specs.Layout.{width}
 use Rattle.desc.specs.Reading.{name_by}
 use Rattle.protocol.specs.Fields.{narrow}
-use Rattle.protocol.specs.Inner.Loading.{stored, outcome, laid_as, told, Reads, session, session_of, session_outcome, SessionRead, found_with}
+use Rattle.protocol.specs.Inner.Loading.{stored, Mem, outcome, laid_as, told, Reads, session, session_of, session_outcome, SessionRead, found_with}
 use Rattle.protocol.specs.Pieces.{many}
 use Rattle.protocol.specs.Startup.{Claim, claim, lay_claim, to_startup, read_startup, lay_startup}
 use Rattle.protocol.specs.Wholes.{ended}
@@ -92,3 +92,10 @@ module _ (check : Bool) (s : List ℕ) where
           ≡ outcome check (laid_as lay_startup (then g (λ c e. pick (narrow v) (Ok ((to_startup (v, (part s start n, c))), e)) (Err (TypeMismatch M.Version))))) tx rs nd
       go (Err e) = refl
       go (Ok (c, e)) = on (narrow v) refl c e
+
+  pub startup_into : {v p start n q : ℕ} (m m₁ : Mem) {tx' rs' nd' : List ℕ} {x : Result Found Refusal} → get_u64 s 0 ≡ Ok (v, p) → name_by check s p ≡ Ok (span start n, q)
+      → length (part s start n) ≡ n → m.t ≡ 0
+      → m₁ ≡ record { text = stored check m.text m.t (part s start n); t = m.t + n; rows = m.rows; r = m.r; nodes = m.nodes; n = m.n }
+      → SessionRead check v m₁.t (ended s ((session check).read s q)) m₁.text m₁.rows m₁.nodes x tx' rs' nd'
+      → Reads check (laid_as lay_startup (read_startup check s)) m.text m.rows m.nodes x tx' rs' nd'
+  startup_into {n = n} m m₁ h k l z e told = startup_reads h k l refl (rw (e, z, zero-add n) at told)

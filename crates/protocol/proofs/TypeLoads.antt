@@ -17,105 +17,110 @@ use Rattle.varint.specs.declared.error.Refusal.{Refusal}
 use Rattle.desc.specs.Layout.{width}
 use Rattle.desc.specs.Reading.{name_by, desc}
 use Rattle.desc.specs.Trees.{Tree}
-use Rattle.desc.specs.declared.Walked.{Walked}
 use Rattle.protocol.specs.Fields.{bit, name, wide_flag, descriptor, Optional, present, optional_on}
-use Rattle.protocol.specs.Inner.Loading.{stored, Mem, put, loaded, load, told_row, LoadsNodes, sides, lay_sides}
+use Rattle.protocol.specs.Inner.Loading.{stored, Mem, put, loaded, failed, with_row, load, told_row, sides, lay_sides}
 use Rattle.protocol.specs.Pieces.{Piece, cells, words, tree, ◌⊕◌}
 use Rattle.protocol.specs.Types.{to_predicate, predicate, has_value, lay_value, lay_predicate}
 use Rattle.protocol.proofs.PieceLaws.{tree_seven, put_join}
 use Rattle.protocol.proofs.RowStores.{stored_none}
 use Rattle.std.specs.Prelude.{Ok, Err, Result}
 use Rattle.varint.specs.Texts.{span}
-use Rattle.desc.specs.Decoding.{walked_to}
+use Rattle.varint.proofs.Basics.{never}
 
 -- numbers of a row are put alone
-pub put_cells : (check : Bool) (row : ℕ → ℕ → List ℕ) (tx : List ℕ) (t : ℕ) (rs : List ℕ) (r : ℕ) (nd : List ℕ) (n : ℕ)
-    → put check (cells row) (record { text = tx; t = t; rows = rs; r = r; nodes = nd; n = n })
-    ≡ record { text = tx; t = t; rows = stored check rs r (row t n); r = r + length (row t n); nodes = nd; n = n }
-put_cells check row tx t rs r nd n =
+pub put_cells : (check : Bool) (row : ℕ → ℕ → List ℕ) (m : Mem) → put check (cells row) m ≡ with_row check (row m.t m.n) m
+put_cells check row m =
     λ i. record {
-      text = stored_none check tx t i;
-      t = add-zero t i;
-      rows = stored check rs r (row t n);
-      r = r + length (row t n);
-      nodes = stored_none check nd (n * width) i;
-      n = add-zero n i;
+      text = stored_none check m.text m.t i;
+      t = add-zero m.t i;
+      rows = stored check m.rows m.r (row m.t m.n);
+      r = m.r + length (row m.t m.n);
+      nodes = stored_none check m.nodes (m.n * width) i;
+      n = add-zero m.n i;
     }
 
 -- so is a text
-pub put_words : (check : Bool) (x tx : List ℕ) (t : ℕ) (rs : List ℕ) (r : ℕ) (nd : List ℕ) (n : ℕ)
-    → put check (words x) (record { text = tx; t = t; rows = rs; r = r; nodes = nd; n = n })
-    ≡ record { text = stored check tx t x; t = t + length x; rows = rs; r = r; nodes = nd; n = n }
-put_words check x tx t rs r nd n =
+pub put_words : (check : Bool) (x : List ℕ) (m : Mem)
+    → put check (words x) m ≡ record { text = stored check m.text m.t x; t = m.t + length x; rows = m.rows; r = m.r; nodes = m.nodes; n = m.n }
+put_words check x m =
     λ i. record {
-      text = stored check tx t x;
-      t = t + length x;
-      rows = stored_none check rs r i;
-      r = add-zero r i;
-      nodes = stored_none check nd (n * width) i;
-      n = add-zero n i;
+      text = stored check m.text m.t x;
+      t = m.t + length x;
+      rows = stored_none check m.rows m.r i;
+      r = add-zero m.r i;
+      nodes = stored_none check m.nodes (m.n * width) i;
+      n = add-zero m.n i;
     }
 
--- what was read and left where a part with nodes was loaded
-pub record Went {A : Type 0} (check : Bool) (piece : A → Piece) (g : Got A) (tx : List ℕ) (t : ℕ) (nd : List ℕ) (n : ℕ) (q t' n' : ℕ) (tx' nd' : List ℕ) : Type 0 where
+-- numbers are told after a descriptor, or before it
+row_tree : (check : Bool) (x : List ℕ) (k : Tree (List ℕ)) (m : Mem) → with_row check x (put check (tree k) m) ≡ put check (tree k) (with_row check x m)
+row_tree check x k m =
+    let p = put check (tree k) m in
+    λ i. record {
+      text = p.text;
+      t = p.t;
+      rows = (rows ∙ sym (stored_none check (stored check m.rows m.r x) (m.r + length x))) i;
+      r = (r ∙ sym (add-zero (m.r + length x))) i;
+      nodes = p.nodes;
+      n = p.n;
+    }
+  where
+    rows : stored check (stored check m.rows m.r []) (m.r + 0) x ≡ stored check m.rows m.r x
+    rows = rw (stored_none check m.rows m.r, add-zero m.r)
+
+    r : m.r + 0 + length x ≡ m.r + length x
+    r = rw (add-zero m.r)
+
+-- what was read and left where something was loaded
+pub record Went {A : Type 0} (check : Bool) (piece : A → Piece) (g : Got A) (m : Mem) (q : ℕ) (m' : Mem) : Type 0 where
   pub value : A
   pub is : g ≡ Ok (value, q)
-  pub left : (rs : List ℕ) (r : ℕ)
-      → record { text = tx'; t = t'; rows = rs; r = r; nodes = nd'; n = n' } ≡ put check (piece value) (record { text = tx; t = t; rows = rs; r = r; nodes = nd; n = n })
+  pub left : m' ≡ put check (piece value) m
 
 loaded_of : {p q : ℕ} {m o : Mem} → loaded p m ≡ loaded q o → (p ≡ q) × (m ≡ o)
 loaded_of e = (cc, cc)
 
-pub nodes_went : {A : Type 0} (check : Bool) (piece : A → Piece) (g : Got A) (tx : List ℕ) (t : ℕ) (nd : List ℕ) (n q t' n' : ℕ) (tx' nd' : List ℕ)
-    → LoadsNodes check piece g tx t nd n (Ok (walked_to q t' n')) tx' nd' → Went check piece g tx t nd n q t' n' tx' nd'
+pub mem_went : {A : Type 0} (check : Bool) (piece : A → Piece) (g : Got A) (m : Mem) (q : ℕ) (m' : Mem) → told_row (Ok q) m' ≡ load check piece g m → Went check piece g m q m'
 unfolding load told_row
-nodes_went check piece (Ok (a, o)) tx t nd n q t' n' tx' nd' h =
-    record { value = a; is = ap ((λ z0. Ok (a, z0))) (sym (loaded_of (h.is [] 0)).0); left = λ rs r. (loaded_of (h.is rs r)).1 }
-nodes_went check piece (Err e) tx t nd n q t' n' tx' nd' h = let f = h.is [] 0 in let z : ◌≡◌ {A = ℕ} 0 1 = cc in absurd (omega arith)
+mem_went check piece (Ok (a, o)) m q m' h = record { value = a; is = ap (λ z. Ok (a, z)) (sym (loaded_of h).0); left = (loaded_of h).1 }
+mem_went check piece (Err e) m q m' h = never cc
 
-pub nodes_refused : {A : Type 0} (check : Bool) (piece : A → Piece) (g : Got A) (tx : List ℕ) (t : ℕ) (nd : List ℕ) (n : ℕ) (e : Refusal) (tx' nd' : List ℕ)
-    → LoadsNodes check piece g tx t nd n (Err e) tx' nd' → g ≡ Err e
-unfolding load told_row
-nodes_refused check piece (Ok (a, o)) tx t nd n e tx' nd' h = let f = h.is [] 0 in let z : ◌≡◌ {A = ℕ} 0 1 = cc in absurd (omega arith)
-nodes_refused check piece (Err x) tx t nd n e tx' nd' h = let f = h.is [] 0 in let z : x ≡ e = cc in ap Err z
+pub mem_refused : {A : Type 0} (check : Bool) (piece : A → Piece) (g : Got A) (m : Mem) (e : Refusal) → failed e ≡ load check piece g m → g ≡ Err e
+unfolding load
+mem_refused check piece (Ok (a, o)) m e h = never cc
+mem_refused check piece (Err x) m e h = let z : x ≡ e = cc in ap Err z
 
 -- the flag tells whether there is a value
 has_value_lem : {A : Type 0} (f : Format A) (b : Bool) (s : List ℕ) (at : ℕ) (o : Optional A) (e : ℕ) → optional_on f b s at ≡ Ok (o, e) → has_value o ≡ b
 has_value_lem f true s at o e h = let w = went (f.read s at) (λ a q. Ok (present a, q)) o e h in ap has_value (sym (got_of w.rest).0)
 has_value_lem f false s at o e h = ap has_value (sym (got_of h).0)
 
-module _ (check : Bool) (limit : ℕ) (s : List ℕ) (at : ℕ) (tx : List ℕ) (t : ℕ) (rs : List ℕ) (r : ℕ) (nd : List ℕ) (n : ℕ) where
-  abbrev Start : Mem
-  Start = record { text = tx; t = t; rows = rs; r = r; nodes = nd; n = n }
-
+module _ (check : Bool) (limit : ℕ) (s : List ℕ) (at : ℕ) (m : Mem) where
   -- the numbers, the key and the value, one after the other
-  pub sides_put : (v : Bool) (k : Tree (List ℕ)) (o : Optional (Tree (List ℕ)))
-      → put check (lay_sides (v, (k, o))) Start
-      ≡ put check (lay_value o) (put check (tree k) (record { text = tx; t = t; rows = stored check rs r (bit v ∷ bit (has_value o) ∷ n ∷ []); r = r + 3; nodes = nd; n = n }))
+  sides_put : (v : Bool) (k : Tree (List ℕ)) (o : Optional (Tree (List ℕ)))
+      → put check (lay_sides (v, (k, o))) m ≡ put check (lay_value o) (put check (tree k) (with_row check (bit v ∷ bit (has_value o) ∷ m.n ∷ []) m))
   sides_put v k o =
-      let row : ℕ → ℕ → List ℕ = λ u m. bit v ∷ bit (has_value o) ∷ m ∷ [] in
-      put_join check (cells row) (tree k ⊕ lay_value o) Start (λ u m. refl)
-      ∙ ap (put check (tree k ⊕ lay_value o)) (put_cells check row tx t rs r nd n)
+      let row : ℕ → ℕ → List ℕ = λ u n. bit v ∷ bit (has_value o) ∷ n ∷ [] in
+      put_join check (cells row) (tree k ⊕ lay_value o) m (λ u n. refl)
+      ∙ ap (put check (tree k ⊕ lay_value o)) (put_cells check row m)
       ∙ put_join check (tree k) (lay_value o) _ (tree_seven k)
 
-  module _ {p q : ℕ} {v : Bool} (first : wide_flag.read s at ≡ Ok (v, p)) {u m : ℕ} {tx₁ nd₁ : List ℕ}
-      (key : LoadsNodes check tree (desc check limit limit s p) tx t nd n (Ok (walked_to q u m)) tx₁ nd₁) {has : Bool} {e : ℕ} (second : wide_flag.read s q ≡ Ok (has, e)) where
-    pub sides_read : {f g : ℕ} {x : Result Walked Refusal} {tx₂ rs₁ nd₂ : List ℕ} → f ≡ bit v → g ≡ bit has → rs₁ ≡ stored check rs r (f ∷ g ∷ n ∷ [])
-        → LoadsNodes check lay_value (optional_on (descriptor check limit) has s e) tx₁ u nd₁ m x tx₂ nd₂
-        → told_row (r + 3) x tx₂ rs₁ nd₂ ≡ load check lay_sides ((sides check limit).read s at) Start
-    unfolding load
-    sides_read {x = x} {tx₂} {rs₁} {nd₂} f g h value =
-        let w = nodes_went check tree (desc check limit limit s p) tx t nd n q u m tx₁ nd₁ key in
-        value.is rs₁ (r + 3) ∙ go w (optional_on (descriptor check limit) has s e) refl
-      where
-        go : (w : Went check tree (desc check limit limit s p) tx t nd n q u m tx₁ nd₁) (y : Got (Optional (Tree (List ℕ))))
-            → optional_on (descriptor check limit) has s e ≡ y
-            → load check lay_value y (record { text = tx₁; t = u; rows = rs₁; r = r + 3; nodes = nd₁; n = m }) ≡ load check lay_sides ((sides check limit).read s at) Start
-        go w (Err z) i = rw (first, w.is, second, i)
-        go w (Ok (o, z)) i =
-            let a : has_value o ≡ has = has_value_lem (descriptor check limit) has s e o z i in
-            let b : rs₁ ≡ stored check rs r (bit v ∷ bit (has_value o) ∷ n ∷ []) = h ∙ rw (f, g, a) in
-            rw (first, w.is, second, i) (ap (loaded z) (ap (put check (lay_value o)) (w.left rs₁ (r + 3) ∙ ap (λ (y : List ℕ). put check (tree w.value) (record { text = tx; t = t; rows = y; r = r + 3; nodes = nd; n = n })) b) ∙ sym (sides_put v w.value o)))
+  pub sides_read : {p e : ℕ} (q : ℕ) {v has : Bool} (m₁ : Mem) {m₂ : Mem} (m₃ : Mem) {f g : ℕ} (x : Result ℕ Refusal) → wide_flag.read s at ≡ Ok (v, p)
+      → told_row (Ok q) m₁ ≡ load check tree (desc check limit limit s p) m → wide_flag.read s q ≡ Ok (has, e) → f ≡ bit v → g ≡ bit has
+      → m₂ ≡ with_row check (f ∷ g ∷ m.n ∷ []) m₁ → told_row x m₃ ≡ load check lay_value (optional_on (descriptor check limit) has s e) m₂
+      → told_row x m₃ ≡ load check lay_sides ((sides check limit).read s at) m
+  unfolding load
+  sides_read {p} {e} q {v} {has} m₁ {m₂} m₃ {f} {g} x first key second i j h value =
+      value ∙ go (mem_went check tree (desc check limit limit s p) m q m₁ key) (optional_on (descriptor check limit) has s e) refl
+    where
+      go : (w : Went check tree (desc check limit limit s p) m q m₁) (y : Got (Optional (Tree (List ℕ)))) → optional_on (descriptor check limit) has s e ≡ y
+          → load check lay_value y m₂ ≡ load check lay_sides ((sides check limit).read s at) m
+      go w (Err z) k = rw (first, w.is, second, k)
+      go w (Ok (o, z)) k =
+          let a : has_value o ≡ has = has_value_lem (descriptor check limit) has s e o z k in
+          let b : m₂ ≡ put check (tree w.value) (with_row check (bit v ∷ bit (has_value o) ∷ m.n ∷ []) m) =
+          h ∙ rw (i, j, ← a, w.left) (row_tree check (bit v ∷ bit (has_value o) ∷ m.n ∷ []) w.value m) in
+          rw (first, w.is, second, k) (ap (loaded z) (ap (put check (lay_value o)) b ∙ sym (sides_put v w.value o)))
 
 -- the numbers of a row at once, or in two steps with a text between
 two_rows : (id v h : ℕ) (x : List ℕ) (k w : Piece)
@@ -134,17 +139,16 @@ two_rows id v h x k w =
     }
 
 -- a type's row is its id and name, and what follows them
-pub predicate_put : (check : Bool) (tx : List ℕ) (t : ℕ) (rs : List ℕ) (r : ℕ) (nd : List ℕ) (n id : ℕ) (x : List ℕ) (c : Bool × (Tree (List ℕ) × Optional (Tree (List ℕ))))
-    → put check (lay_predicate (to_predicate (id, (x, c)))) (record { text = tx; t = t; rows = rs; r = r; nodes = nd; n = n })
-    ≡ put check (lay_sides c) (record { text = stored check tx t x; t = t + length x; rows = stored check rs r (id ∷ t ∷ length x ∷ []); r = r + 3; nodes = nd; n = n })
-predicate_put check tx t rs r nd n id x c =
-    let row : ℕ → ℕ → List ℕ = λ u m. id ∷ u ∷ length x ∷ [] in
-    let m : Mem = record { text = tx; t = t; rows = rs; r = r; nodes = nd; n = n } in
+predicate_put : (check : Bool) (m : Mem) (id : ℕ) (x : List ℕ) (c : Bool × (Tree (List ℕ) × Optional (Tree (List ℕ))))
+    → put check (lay_predicate (to_predicate (id, (x, c)))) m
+    ≡ put check (lay_sides c) (record { text = stored check m.text m.t x; t = m.t + length x; rows = stored check m.rows m.r (id ∷ m.t ∷ length x ∷ []); r = m.r + 3; nodes = m.nodes; n = m.n })
+predicate_put check m id x c =
+    let row : ℕ → ℕ → List ℕ = λ u n. id ∷ u ∷ length x ∷ [] in
     ap (λ (p : Piece). put check p m) (two_rows id (bit c.0) (bit (has_value c.1.1)) x (tree c.1.0) (lay_value c.1.1))
     ∙ put_join check (cells row) (words x ⊕ lay_sides c) m (λ u o. refl)
-    ∙ ap (put check (words x ⊕ lay_sides c)) (put_cells check row tx t rs r nd n)
+    ∙ ap (put check (words x ⊕ lay_sides c)) (put_cells check row m)
     ∙ put_join check (words x) (lay_sides c) _ (λ u o. refl)
-    ∙ ap (put check (lay_sides c)) (put_words check x tx t (stored check rs r (row t n)) (r + 3) nd n)
+    ∙ ap (put check (lay_sides c)) (put_words check x (with_row check (row m.t m.n) m))
 
 -- what follows the name decides
 predicate_tail : (check : Bool) (limit : ℕ) (s : List ℕ) (at : ℕ) {id p start len q : ℕ} → get_u64 s at ≡ Ok (id, p) → id ≤ 4294967295
@@ -158,24 +162,16 @@ predicate_tail check limit s at {id} {start = start} {len} {q} first small name 
     go (Ok (c, e)) = refl
     go (Err e) = refl
 
-module _ (check : Bool) (limit : ℕ) (s : List ℕ) (at : ℕ) (tx : List ℕ) (t : ℕ) (rs : List ℕ) (r : ℕ) (nd : List ℕ) (n : ℕ) where
-  pub type_read : {id p start len q : ℕ} (x : Result Walked Refusal) (tx₂ rs₂ nd₂ : List ℕ) {tx₁ rs₁ : List ℕ} → get_u64 s at ≡ Ok (id, p) → id ≤ 4294967295
-      → name_by check s p ≡ Ok (span start len, q) → length (part s start len) ≡ len → tx₁ ≡ stored check tx t (part s start len)
-      → rs₁ ≡ stored check rs r (id ∷ t ∷ len ∷ [])
-      → told_row (r + 3 + 3) x tx₂ rs₂ nd₂
-      ≡ load check lay_sides ((sides check limit).read s q) (record { text = tx₁; t = t + len; rows = rs₁; r = r + 3; nodes = nd; n = n })
-      → told_row (r + 6) x tx₂ rs₂ nd₂
-      ≡ load check lay_predicate ((predicate check limit).read s at) (record { text = tx; t = t; rows = rs; r = r; nodes = nd; n = n })
-  unfolding load
-  type_read {id} {p} {start} {len} {q} x tx₂ rs₂ nd₂ {tx₁} {rs₁} first small name l h k told =
-      let six : r + 6 ≡ r + 3 + 3 = omega arith in
-      rw six (told ∙ go ((sides check limit).read s q) refl)
-    where
-      go : (g : Got (Bool × (Tree (List ℕ) × Optional (Tree (List ℕ))))) → (sides check limit).read s q ≡ g
-          → load check lay_sides g (record { text = tx₁; t = t + len; rows = rs₁; r = r + 3; nodes = nd; n = n })
-          ≡ load check lay_predicate ((predicate check limit).read s at) (record { text = tx; t = t; rows = rs; r = r; nodes = nd; n = n })
-      go (Err e) i = rw (predicate_tail check limit s at first small name, i)
-      go (Ok (c, e)) i =
-          let y = predicate_put check tx t rs r nd n id (part s start len) c in
-          rw (predicate_tail check limit s at first small name, i)
-          (ap (loaded e) (sym (y ∙ rw (l, ← h, ← k))))
+pub type_read : (check : Bool) (limit : ℕ) (s : List ℕ) (at : ℕ) (m : Mem) {id p start len q : ℕ} (x : Result ℕ Refusal) {m₁ : Mem} (m₂ : Mem) → get_u64 s at ≡ Ok (id, p)
+    → id ≤ 4294967295 → name_by check s p ≡ Ok (span start len, q) → length (part s start len) ≡ len
+    → m₁ ≡ record { text = stored check m.text m.t (part s start len); t = m.t + len; rows = stored check m.rows m.r (id ∷ m.t ∷ len ∷ []); r = m.r + 3; nodes = m.nodes; n = m.n }
+    → told_row x m₂ ≡ load check lay_sides ((sides check limit).read s q) m₁ → told_row x m₂ ≡ load check lay_predicate ((predicate check limit).read s at) m
+unfolding load
+type_read check limit s at m {id} {p} {start} {len} {q} x {m₁} m₂ first small is l h told = told ∙ go ((sides check limit).read s q) refl
+  where
+    go : (g : Got (Bool × (Tree (List ℕ) × Optional (Tree (List ℕ))))) → (sides check limit).read s q ≡ g
+        → load check lay_sides g m₁ ≡ load check lay_predicate ((predicate check limit).read s at) m
+    go (Err e) i = rw (predicate_tail check limit s at first small is, i)
+    go (Ok (c, e)) i =
+        let y = predicate_put check m id (part s start len) c in
+        rw (predicate_tail check limit s at first small is, i) (ap (loaded e) (ap (put check (lay_sides c)) (h ∙ rw l) ∙ sym y))

@@ -31,7 +31,7 @@ read_complete s = ended s (complete.read s 0)
 unfoldable pub lay_complete : Complete → Laid
 lay_complete m = record { message = Msg.Complete m.first m.second; piece = none }
 
-example_read : read_complete (3 ∷ 0x80 ∷ 0x01 ∷ []) ≡ Ok ((record { first = 3; second = 128 }), 3)
+example_read : read_complete (3 ∷ 0x80 ∷ 0x01 ∷ []) ≡ Ok (record { first = 3; second = 128 }, 3)
 unfolding read_complete get_u64 read_from
 example_read = refl
 

@@ -43,7 +43,7 @@ unfoldable pub held_error : ErrorCode → Span → List ℕ → Held Error
 held_error code span tx = then_held (text_held tx span.start span.len) (λ x. held (record { code = code; text = x }))
 
 -- what follows the text is ignored
-example_read : read_error true (2 ∷ 1 ∷ 0x61 ∷ 0xFF ∷ []) ≡ Ok ((record { code = UnknownDatabase; text = 0x61 ∷ [] }), 3)
+example_read : read_error true (2 ∷ 1 ∷ 0x61 ∷ 0xFF ∷ []) ≡ Ok (record { code = UnknownDatabase; text = 0x61 ∷ [] }, 3)
 unfolding read_error get_u64 read_from get_text skim_text utf8 scan lead part
 example_read = refl
 

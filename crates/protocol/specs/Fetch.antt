@@ -25,10 +25,10 @@ pub record Fetch : Type 0 where
   pub digest : Option ℕ
   pub ids : List ℕ
 
-abbrev pub to_fetch : (Option ℕ) × List ℕ → Fetch
+abbrev pub to_fetch : Option ℕ × List ℕ → Fetch
 to_fetch c = record { digest = c.0; ids = c.1 }
 
-abbrev pub from_fetch : Fetch → (Option ℕ) × List ℕ
+abbrev pub from_fetch : Fetch → Option ℕ × List ℕ
 from_fetch m = (m.digest, m.ids)
 
 -- "digest if 1"; "a missing fetch flag is 1", and one that is neither 0 nor 1 is "13 BadDigestFlag(n)"

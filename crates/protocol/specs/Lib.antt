@@ -1,4 +1,5 @@
 pub mod Codes
+pub mod Entries
 pub mod Fields
 pub mod Pieces
 pub mod Wholes

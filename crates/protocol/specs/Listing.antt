@@ -32,7 +32,7 @@ read_listing s = ended s (listing.read s 0)
 unfoldable pub lay_listing : Listing → Laid
 lay_listing m = record { message = Msg.ListingDigest m.predicate m.digest; piece = none }
 
-example_read : read_listing (0xFF ∷ 0xFF ∷ 0xFF ∷ 0xFF ∷ 0x0F ∷ 0x00 ∷ []) ≡ Ok ((record { predicate = 4294967295; digest = 0 }), 6)
+example_read : read_listing (0xFF ∷ 0xFF ∷ 0xFF ∷ 0xFF ∷ 0x0F ∷ 0x00 ∷ []) ≡ Ok (record { predicate = 4294967295; digest = 0 }, 6)
 unfolding read_listing get_u64 read_from
 example_read = refl
 

@@ -53,7 +53,7 @@ held_page limit cursor query tx =
     (λ c. then_held (text_held tx query.start query.len) (λ x. held (record { limit = limit; cursor = c; query = x })))
 
 -- limit 5, a cursor that is no text, and the query "q"
-example_read : read_page true (5 ∷ 0 ∷ 0 ∷ 0 ∷ 0 ∷ 0 ∷ 0 ∷ 0 ∷ 1 ∷ 0 ∷ 0 ∷ 0 ∷ 0xFF ∷ 0x71 ∷ []) ≡ Ok ((record { limit = 5; cursor = 0xFF ∷ []; query = 0x71 ∷ [] }), 14)
+example_read : read_page true (5 ∷ 0 ∷ 0 ∷ 0 ∷ 0 ∷ 0 ∷ 0 ∷ 0 ∷ 1 ∷ 0 ∷ 0 ∷ 0 ∷ 0xFF ∷ 0x71 ∷ []) ≡ Ok (record { limit = 5; cursor = 0xFF ∷ []; query = 0x71 ∷ [] }, 14)
 unfolding read_page get_le le part utf8 scan lead
 example_read = refl
 

@@ -32,6 +32,6 @@ read_ready s = versioned (λ m. m.version) (ended s (ready.read s 0))
 unfoldable pub lay_ready : Ready → Laid
 lay_ready m = record { message = Msg.Ready m.version m.fingerprint m.predicates; piece = none }
 
-example_read : read_ready (4 ∷ 7 ∷ 9 ∷ []) ≡ Ok ((record { version = 4; fingerprint = 7; predicates = 9 }), 3)
+example_read : read_ready (4 ∷ 7 ∷ 9 ∷ []) ≡ Ok (record { version = 4; fingerprint = 7; predicates = 9 }, 3)
 unfolding read_ready get_u64 read_from
 example_read = refl

@@ -73,12 +73,12 @@ held_reply (R.Finished fingerprint facts bytes complete) tx =
     held (finished (record { fingerprint = fingerprint; facts = facts; bytes = bytes; already_complete = complete }))
 held_reply R.Removed tx = held removed
 
-example_created : read_reply true (1 ∷ 1 ∷ 0x61 ∷ []) ≡ Ok ((created (0x61 ∷ [])), 3)
+example_created : read_reply true (1 ∷ 1 ∷ 0x61 ∷ []) ≡ Ok (created (0x61 ∷ []), 3)
 unfolding read_reply get_u64 read_from get_name get_text skim_text utf8 scan lead part
 example_created = refl
 
 -- a flag of 7 is yes
-example_finished : read_reply true (2 ∷ 4 ∷ 5 ∷ 6 ∷ 7 ∷ []) ≡ Ok ((finished (record { fingerprint = 4; facts = 5; bytes = 6; already_complete = true })), 5)
+example_finished : read_reply true (2 ∷ 4 ∷ 5 ∷ 6 ∷ 7 ∷ []) ≡ Ok (finished (record { fingerprint = 4; facts = 5; bytes = 6; already_complete = true }), 5)
 unfolding read_reply get_u64 read_from
 example_finished = refl
 

@@ -1,4 +1,5 @@
-// The fields of messages. A reader takes a slice and a place in it, and answers the value with the place after it, or the refusal.
+// The fields of messages. A reader takes a slice and a place in it, and answers the value with the place after it, or the refusal. What has texts alone is
+// lent the text and the place t in it, and no `Memory`, which has rows and nodes too.
 ghost use Rattle.std.specs.Prelude.{false, ◌≡◌};
 ghost use Rattle.varint.specs.Got.{Got};
 ghost use Rattle.varint.specs.declared.error.Refusal.TheVariants.{TypeMismatch};

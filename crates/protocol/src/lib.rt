@@ -2,21 +2,30 @@
 //
 // A message is read twice: once to see whether it is one and how much memory it takes, and once to store it. Both are one function, which is
 // lent small buffers of its own the first time. UTF-8 is checked in the first reading only. A message that takes no memory is read once.
+//
+// What reads is lent one `Memory`. Here text, rows and nodes stand side by side, as a caller lends them: what is done here is to ask each how long it is, and to
+// clear it, which a struct of the three makes no plainer.
 #![tactic(auto)]
 
+pub mod entry;
 mod fields;
+mod memory;
 pub mod message;
 mod read;
 mod rows;
 
-ghost use Rattle.std.specs.Prelude.{◌≡◌, ◌≤◌, ◌<◌, length};
+ghost use Rattle.std.specs.Prelude.{◌≡◌, ℕ, ◌≤◌, ◌<◌, length};
 ghost use Rattle.protocol.specs.Decoding.{decode_message};
 ghost use Rattle.varint.specs.Stores.{clear_from};
-ghost use Rattle.protocol.specs.Inner.Loading.{Opaque, BareEntry, RoomyEntry};
+ghost use Rattle.protocol.specs.Entries.{entry_number};
+ghost use Rattle.protocol.specs.Inner.Loading.{Opaque, RoomyEntry, bare_left, laid_as, Reads};
+ghost use Rattle.protocol.specs.Said.{read_entry, lay};
 
 use desc::{MAX_DEPTH, MAX_PAYLOAD};
+use entry::Entry;
+use memory::Memory;
 use message::{Message, Span};
-use read::{Found, read_bare, read_message};
+use read::{Found, read_complete, read_listing_digest, read_message, read_ready};
 use varint::error::{Buffer, Refusal};
 use varint::store::{copy_bytes, fill_from};
 
@@ -29,18 +38,14 @@ fn clear_behind(text: &mut [u8], t: usize, rows: &mut [u64], r: usize, nodes: &m
     fill_from(nodes, k, 0);
 }
 
-// A payload that is no message is one text, whatever its bytes.
+// A payload that is no message is one text, whatever its bytes and however long.
 fn decode_opaque(
-    entry: u8,
     payload: &[u8],
-    max: u64,
-    limit: u64,
     text: &mut [u8],
     rows: &mut [u64],
     nodes: &mut [u64],
 ) -> Result<Message, Refusal>
-    requires { Opaque entry }
-    ensures { record { answer = result; text = text.new; rows = rows.new; nodes = nodes.new } ≡ decode_message max limit entry payload.now text.old rows.old nodes.old }
+    ensures { (max limit entry : ℕ) → Opaque entry → record { answer = result; text = text.new; rows = rows.new; nodes = nodes.new } ≡ decode_message max limit entry payload.now text.old rows.old nodes.old }
 {
     let len = payload.len();
     if text.len() < len {
@@ -57,27 +62,47 @@ fn decode_opaque(
 }
 
 // A message of numbers alone takes no memory: nothing is stored, and what was lent is cleared.
-#[tactic(auto, using(crate::proofs::DecodeLaws::decode_bare_refused, crate::proofs::DecodeLaws::decode_bare_read))]
+#[inline(always)]
 fn decode_bare(
-    entry: u8,
-    payload: &[u8],
-    max: u64,
-    limit: u64,
+    read: Result<Message, Refusal>,
     text: &mut [u8],
     rows: &mut [u64],
     nodes: &mut [u64],
 ) -> Result<Message, Refusal>
-    requires { BareEntry entry × (length payload.now ≤ max) }
-    ensures { record { answer = result; text = text.new; rows = rows.new; nodes = nodes.new } ≡ decode_message max limit entry payload.now text.old rows.old nodes.old }
+    ensures { record { answer = result; text = text.new; rows = rows.new; nodes = nodes.new } ≡ bare_left read text.old rows.old nodes.old }
 {
-    let found = read_bare(entry, payload)?;
+    let message = read?;
     clear_behind(text, 0, rows, 0, nodes, 0);
-    Ok(found.message)
+    Ok(message)
+}
+
+// The message is read into the lent memory, from its start on.
+fn read_into(
+    entry: Entry,
+    payload: &[u8],
+    check: bool,
+    limit: u64,
+    text: &mut [u8],
+    rows: &mut [u64],
+    nodes: &mut [u64],
+) -> Result<Found, Refusal>
+    requires { RoomyEntry (entry_number entry) × (length payload.now ≤ 4294967296) }
+    ensures { Reads check (laid_as lay (read_entry check limit (entry_number entry) payload.now)) text.old rows.old nodes.old result text.new rows.new nodes.new }
+{
+    let mut memory = Memory {
+        text,
+        t: 0,
+        rows,
+        r: 0,
+        nodes,
+        n: 0,
+    };
+    read_message(entry, payload, check, limit, &mut memory)
 }
 
 // A message that fits what was lent is stored, and what it does not fill is cleared.
 fn decode_fitting(
-    entry: u8,
+    entry: Entry,
     payload: &[u8],
     max: u64,
     limit: u64,
@@ -85,8 +110,8 @@ fn decode_fitting(
     rows: &mut [u64],
     nodes: &mut [u64],
 ) -> Result<Message, Refusal>
-    requires { RoomyEntry entry × (length payload.now ≤ max) × (max ≤ 4294967296) }
-    ensures { record { answer = result; text = text.new; rows = rows.new; nodes = nodes.new } ≡ decode_message max limit entry payload.now text.old rows.old nodes.old }
+    requires { RoomyEntry (entry_number entry) × (length payload.now ≤ max) × (max ≤ 4294967296) }
+    ensures { record { answer = result; text = text.new; rows = rows.new; nodes = nodes.new } ≡ decode_message max limit (entry_number entry) payload.now text.old rows.old nodes.old }
 {
     let mut a = [0u8; 1];
     let mut b = [0u64; 1];
@@ -96,7 +121,7 @@ fn decode_fitting(
         text: t,
         rows: r,
         nodes: k,
-    } = read_message(entry, payload, true, limit, &mut a, &mut b, &mut c)?;
+    } = read_into(entry, payload, true, limit, &mut a, &mut b, &mut c)?;
     if text.len() < t {
         return Err(Refusal::too_small(Buffer::Text, t));
     }
@@ -110,15 +135,15 @@ fn decode_fitting(
         clear_behind(text, 0, rows, 0, nodes, 0);
         return Ok(message);
     }
-    let _ = read_message(entry, payload, false, limit, text, rows, nodes);
+    let _ = read_into(entry, payload, false, limit, text, rows, nodes);
     clear_behind(text, t, rows, r, nodes, k);
     Ok(message)
 }
 
-// The longest payload and the depth of descriptors are given.
+// The longest payload and the depth of descriptors are given. A `match`, since the wire says which message it is.
 #[tactic(auto, using(crate::proofs::DecodeLaws::decode_long))]
 fn decode_within(
-    entry: u8,
+    entry: Entry,
     payload: &[u8],
     max: u64,
     limit: u64,
@@ -127,14 +152,8 @@ fn decode_within(
     nodes: &mut [u64],
 ) -> Result<Message, Refusal>
     requires { max ≤ 4294967296 }
-    ensures { record { answer = result; text = text.new; rows = rows.new; nodes = nodes.new } ≡ decode_message max limit entry payload.now text.old rows.old nodes.old }
+    ensures { record { answer = result; text = text.new; rows = rows.new; nodes = nodes.new } ≡ decode_message max limit (entry_number entry) payload.now text.old rows.old nodes.old }
 {
-    if entry == 0 {
-        return decode_opaque(entry, payload, max, limit, text, rows, nodes);
-    }
-    if 12 < entry {
-        return decode_opaque(entry, payload, max, limit, text, rows, nodes);
-    }
     let length = payload.len() as u64;
     if max < length {
         return Err(Refusal::BlockTooLarge {
@@ -143,9 +162,24 @@ fn decode_within(
         });
     }
     match entry {
-        2 | 4 | 12 => decode_bare(entry, payload, max, limit, text, rows, nodes),
+        Entry::Ready => decode_bare(read_ready(payload), text, rows, nodes),
+        Entry::Complete => decode_bare(read_complete(payload), text, rows, nodes),
+        Entry::ListingDigest => decode_bare(read_listing_digest(payload), text, rows, nodes),
         _ => decode_fitting(entry, payload, max, limit, text, rows, nodes),
     }
+}
+
+// The message that an entry names.
+fn decode_named(
+    entry: Entry,
+    payload: &[u8],
+    text: &mut [u8],
+    rows: &mut [u64],
+    nodes: &mut [u64],
+) -> Result<Message, Refusal>
+    ensures { record { answer = result; text = text.new; rows = rows.new; nodes = nodes.new } ≡ decode_message 67108864 64 (entry_number entry) payload.now text.old rows.old nodes.old }
+{
+    decode_within(entry, payload, MAX_PAYLOAD, MAX_DEPTH, text, rows, nodes)
 }
 
 // The message that an entry of the kind table names, 1 to 12, or an opaque payload for any other.
@@ -158,7 +192,10 @@ pub fn decode(
 ) -> Result<Message, Refusal>
     ensures { record { answer = result; text = text.new; rows = rows.new; nodes = nodes.new } ≡ decode_message 67108864 64 entry payload.now text.old rows.old nodes.old }
 {
-    decode_within(entry, payload, MAX_PAYLOAD, MAX_DEPTH, text, rows, nodes)
+    match Entry::of(u64::from(entry)) {
+        Some(named) => decode_named(named, payload, text, rows, nodes),
+        None => decode_opaque(payload, text, rows, nodes),
+    }
 }
 
 pub fn decode_startup(
@@ -169,7 +206,7 @@ pub fn decode_startup(
 ) -> Result<Message, Refusal>
     ensures { record { answer = result; text = text.new; rows = rows.new; nodes = nodes.new } ≡ decode_message 67108864 64 1 payload.now text.old rows.old nodes.old }
 {
-    decode(1, payload, text, rows, nodes)
+    decode_named(Entry::Startup, payload, text, rows, nodes)
 }
 
 pub fn decode_ready(
@@ -180,7 +217,7 @@ pub fn decode_ready(
 ) -> Result<Message, Refusal>
     ensures { record { answer = result; text = text.new; rows = rows.new; nodes = nodes.new } ≡ decode_message 67108864 64 2 payload.now text.old rows.old nodes.old }
 {
-    decode(2, payload, text, rows, nodes)
+    decode_named(Entry::Ready, payload, text, rows, nodes)
 }
 
 pub fn decode_error(
@@ -191,7 +228,7 @@ pub fn decode_error(
 ) -> Result<Message, Refusal>
     ensures { record { answer = result; text = text.new; rows = rows.new; nodes = nodes.new } ≡ decode_message 67108864 64 3 payload.now text.old rows.old nodes.old }
 {
-    decode(3, payload, text, rows, nodes)
+    decode_named(Entry::Error, payload, text, rows, nodes)
 }
 
 pub fn decode_complete(
@@ -202,7 +239,7 @@ pub fn decode_complete(
 ) -> Result<Message, Refusal>
     ensures { record { answer = result; text = text.new; rows = rows.new; nodes = nodes.new } ≡ decode_message 67108864 64 4 payload.now text.old rows.old nodes.old }
 {
-    decode(4, payload, text, rows, nodes)
+    decode_named(Entry::Complete, payload, text, rows, nodes)
 }
 
 pub fn decode_ids(
@@ -213,7 +250,7 @@ pub fn decode_ids(
 ) -> Result<Message, Refusal>
     ensures { record { answer = result; text = text.new; rows = rows.new; nodes = nodes.new } ≡ decode_message 67108864 64 5 payload.now text.old rows.old nodes.old }
 {
-    decode(5, payload, text, rows, nodes)
+    decode_named(Entry::Ids, payload, text, rows, nodes)
 }
 
 pub fn decode_types(
@@ -224,7 +261,7 @@ pub fn decode_types(
 ) -> Result<Message, Refusal>
     ensures { record { answer = result; text = text.new; rows = rows.new; nodes = nodes.new } ≡ decode_message 67108864 64 6 payload.now text.old rows.old nodes.old }
 {
-    decode(6, payload, text, rows, nodes)
+    decode_named(Entry::Types, payload, text, rows, nodes)
 }
 
 pub fn decode_control(
@@ -235,7 +272,7 @@ pub fn decode_control(
 ) -> Result<Message, Refusal>
     ensures { record { answer = result; text = text.new; rows = rows.new; nodes = nodes.new } ≡ decode_message 67108864 64 7 payload.now text.old rows.old nodes.old }
 {
-    decode(7, payload, text, rows, nodes)
+    decode_named(Entry::Control, payload, text, rows, nodes)
 }
 
 pub fn decode_control_reply(
@@ -246,7 +283,7 @@ pub fn decode_control_reply(
 ) -> Result<Message, Refusal>
     ensures { record { answer = result; text = text.new; rows = rows.new; nodes = nodes.new } ≡ decode_message 67108864 64 8 payload.now text.old rows.old nodes.old }
 {
-    decode(8, payload, text, rows, nodes)
+    decode_named(Entry::Reply, payload, text, rows, nodes)
 }
 
 pub fn decode_profile(
@@ -257,7 +294,7 @@ pub fn decode_profile(
 ) -> Result<Message, Refusal>
     ensures { record { answer = result; text = text.new; rows = rows.new; nodes = nodes.new } ≡ decode_message 67108864 64 9 payload.now text.old rows.old nodes.old }
 {
-    decode(9, payload, text, rows, nodes)
+    decode_named(Entry::Profile, payload, text, rows, nodes)
 }
 
 pub fn decode_page(
@@ -268,7 +305,7 @@ pub fn decode_page(
 ) -> Result<Message, Refusal>
     ensures { record { answer = result; text = text.new; rows = rows.new; nodes = nodes.new } ≡ decode_message 67108864 64 10 payload.now text.old rows.old nodes.old }
 {
-    decode(10, payload, text, rows, nodes)
+    decode_named(Entry::Page, payload, text, rows, nodes)
 }
 
 pub fn decode_fetch(
@@ -279,7 +316,7 @@ pub fn decode_fetch(
 ) -> Result<Message, Refusal>
     ensures { record { answer = result; text = text.new; rows = rows.new; nodes = nodes.new } ≡ decode_message 67108864 64 11 payload.now text.old rows.old nodes.old }
 {
-    decode(11, payload, text, rows, nodes)
+    decode_named(Entry::Fetch, payload, text, rows, nodes)
 }
 
 pub fn decode_listing_digest(
@@ -290,5 +327,5 @@ pub fn decode_listing_digest(
 ) -> Result<Message, Refusal>
     ensures { record { answer = result; text = text.new; rows = rows.new; nodes = nodes.new } ≡ decode_message 67108864 64 12 payload.now text.old rows.old nodes.old }
 {
-    decode(12, payload, text, rows, nodes)
+    decode_named(Entry::ListingDigest, payload, text, rows, nodes)
 }

@@ -3,6 +3,8 @@ ghost use Rattle.std.specs.Prelude.{◌≡◌};
 ghost use Rattle.protocol.specs.Codes.{mode_of, mode_byte, error_of, error_byte, op_of, op_byte};
 ghost use Rattle.protocol.specs.Rows.{width_of};
 ghost use Rattle.protocol.specs.Startup.{spoken_version};
+ghost use Rattle.protocol.specs.declared.message.RowKind.{RowKind};
+ghost use Rattle.protocol.specs.declared.message.RowKind.TheVariants as K;
 
 use varint::error::{Mismatch, Refusal};
 
@@ -153,6 +155,53 @@ impl RowKind {
             RowKind::Pair => 1,
         }
     }
+}
+
+// A kind of rows as a type, so that what reads, checks or writes rows is made for each kind by itself.
+pub trait Row {
+    ghost KIND: { RowKind };
+
+    const KIND: RowKind;
+}
+
+pub struct Claim;
+
+pub struct Id;
+
+pub struct Predicate;
+
+pub struct Step;
+
+pub struct Pair;
+
+impl Row for Claim {
+    ghost KIND = { K.Claim };
+
+    const KIND: RowKind = RowKind::Claim;
+}
+
+impl Row for Id {
+    ghost KIND = { K.Id };
+
+    const KIND: RowKind = RowKind::Id;
+}
+
+impl Row for Predicate {
+    ghost KIND = { K.Predicate };
+
+    const KIND: RowKind = RowKind::Predicate;
+}
+
+impl Row for Step {
+    ghost KIND = { K.Step };
+
+    const KIND: RowKind = RowKind::Step;
+}
+
+impl Row for Pair {
+    ghost KIND = { K.Pair };
+
+    const KIND: RowKind = RowKind::Pair;
 }
 
 impl TryFrom<u8> for Mode {

@@ -5,11 +5,12 @@ ghost use Rattle.varint.specs.Choice.{pick};
 ghost use Rattle.varint.specs.Runs.{end_of, values_of};
 ghost use Rattle.varint.specs.Utf8.{utf8};
 ghost use Rattle.desc.specs.Layout.{width};
-ghost use Rattle.protocol.specs.Inner.Loading.{found_with, stored, laid_as, ReadsBare, Reads, ReadsText, ReadsEntry, BareEntry, RoomyEntry, lay_finished, session, SessionRead};
+ghost use Rattle.protocol.specs.Inner.Loading.{found_with, plainly, stored, laid_as, Empty, ReadsBare, ReadsInto, ReadsText, RoomyEntry, lay_finished, session, SessionInto};
 ghost use Rattle.protocol.specs.Wholes.{ended};
 ghost use Rattle.protocol.specs.declared.message.ControlOp.TheVariants.{Create};
 ghost use Rattle.protocol.specs.Complete.{read_complete, lay_complete};
 ghost use Rattle.protocol.specs.Control.{read_control, lay_control};
+ghost use Rattle.protocol.specs.Entries.{entry_number};
 ghost use Rattle.protocol.specs.Error.{read_error, lay_error};
 ghost use Rattle.protocol.specs.Fetch.{read_fetch, lay_fetch};
 ghost use Rattle.protocol.specs.Ids.{read_ids, lay_ids};
@@ -22,8 +23,12 @@ ghost use Rattle.protocol.specs.Said.{read_entry, lay};
 ghost use Rattle.protocol.specs.Startup.{read_startup, lay_startup};
 ghost use Rattle.protocol.specs.Types.{read_types, lay_types};
 
+use crate::entry::Entry;
 use crate::fields::{read_digest, read_flag, read_known, read_name, read_text};
-use crate::message::{ControlOp, ControlReply, ErrorCode, Message, Mode, RowKind, Span};
+use crate::memory::Memory;
+use crate::message::{
+    Claim, ControlOp, ControlReply, ErrorCode, Message, Mode, Pair, Predicate, Span, Step,
+};
 use crate::rows::read_rows;
 use desc::node::WIDTH;
 use varint::error::{Mismatch, Refusal};
@@ -43,15 +48,11 @@ pub(crate) struct Found {
 }
 
 // A message without texts, rows and nodes.
-fn plain(message: Message) -> Found
-    ensures { result ≡ found_with message 0 0 0 }
+fn plain(read: Result<Message, Refusal>) -> Result<Found, Refusal>
+    ensures { result ≡ plainly read }
 {
-    Found {
-        message,
-        text: 0,
-        rows: 0,
-        nodes: 0,
-    }
+    let message = read?;
+    Ok(worded(message, 0))
 }
 
 // A message with texts alone.
@@ -84,8 +85,9 @@ fn left_over(s: &[u8], at: usize) -> Refusal
     Refusal::TrailingBytes((s.len() - at) as u64)
 }
 
+#[inline(always)]
 #[tactic(auto, unfolding(crate::specs::Ready::read_ready, crate::specs::Ready::lay_ready, crate::specs::Inner::Loading::bare))]
-pub(crate) fn read_ready(s: &[u8]) -> Result<Found, Refusal>
+pub(crate) fn read_ready(s: &[u8]) -> Result<Message, Refusal>
     ensures { ReadsBare (laid_as lay_ready (read_ready s.now)) result }
 {
     let (version, p) = get_u64(s, 0)?;
@@ -97,15 +99,16 @@ pub(crate) fn read_ready(s: &[u8]) -> Result<Found, Refusal>
     if MAX_U32 < version {
         return Err(Refusal::TypeMismatch(Mismatch::Version));
     }
-    Ok(plain(Message::Ready {
+    Ok(Message::Ready {
         version: version as u32,
         schema_fingerprint: fingerprint,
         predicates,
-    }))
+    })
 }
 
+#[inline(always)]
 #[tactic(auto, unfolding(crate::specs::Complete::read_complete, crate::specs::Complete::lay_complete, crate::specs::Inner::Loading::bare))]
-pub(crate) fn read_complete(s: &[u8]) -> Result<Found, Refusal>
+pub(crate) fn read_complete(s: &[u8]) -> Result<Message, Refusal>
     ensures { ReadsBare (laid_as lay_complete (read_complete s.now)) result }
 {
     let (first, p) = get_u64(s, 0)?;
@@ -113,11 +116,12 @@ pub(crate) fn read_complete(s: &[u8]) -> Result<Found, Refusal>
     if end < s.len() {
         return Err(left_over(s, end));
     }
-    Ok(plain(Message::Complete { first, second }))
+    Ok(Message::Complete { first, second })
 }
 
+#[inline(always)]
 #[tactic(auto, unfolding(crate::specs::Listing::read_listing, crate::specs::Listing::lay_listing, crate::specs::Inner::Loading::bare))]
-pub(crate) fn read_listing_digest(s: &[u8]) -> Result<Found, Refusal>
+pub(crate) fn read_listing_digest(s: &[u8]) -> Result<Message, Refusal>
     ensures { ReadsBare (laid_as lay_listing (read_listing s.now)) result }
 {
     let (predicate, p) = get_u64(s, 0)?;
@@ -128,10 +132,10 @@ pub(crate) fn read_listing_digest(s: &[u8]) -> Result<Found, Refusal>
     if end < s.len() {
         return Err(left_over(s, end));
     }
-    Ok(plain(Message::ListingDigest {
+    Ok(Message::ListingDigest {
         predicate: predicate as u32,
         digest,
-    }))
+    })
 }
 
 #[tactic(auto, unfolding(crate::specs::Error::read_error, crate::specs::Inner::Loading::told, crate::specs::Inner::Loading::outcome))]
@@ -182,7 +186,7 @@ fn read_created(s: &[u8], at: usize, check: bool, text: &mut [u8]) -> Result<Fou
 }
 
 #[tactic(auto, unfolding(crate::specs::Reply::lay_reply, crate::specs::Inner::Loading::bare))]
-fn read_finished(s: &[u8], at: usize) -> Result<Found, Refusal>
+fn read_finished(s: &[u8], at: usize) -> Result<Message, Refusal>
     ensures { ReadsBare (laid_as lay_finished (ended s.now (finish.read s.now at))) result }
 {
     let (fingerprint, p) = get_u64(s, at)?;
@@ -192,23 +196,23 @@ fn read_finished(s: &[u8], at: usize) -> Result<Found, Refusal>
     if end < s.len() {
         return Err(left_over(s, end));
     }
-    Ok(plain(Message::Reply(ControlReply::Finished {
+    Ok(Message::Reply(ControlReply::Finished {
         fingerprint,
         facts,
         bytes,
         already_complete: yes,
-    })))
+    }))
 }
 
 #[tactic(auto, unfolding(crate::specs::Reply::lay_reply, crate::specs::Inner::Loading::bare))]
-fn read_removed(s: &[u8], at: usize) -> Result<Found, Refusal>
+fn read_removed(s: &[u8], at: usize) -> Result<Message, Refusal>
     requires { at ≤ length s.now }
     ensures { ReadsBare (laid_as lay_reply (ended s.now (Ok (removed, at)))) result }
 {
     if at < s.len() {
         return Err(left_over(s, at));
     }
-    Ok(plain(Message::Reply(ControlReply::Removed)))
+    Ok(Message::Reply(ControlReply::Removed))
 }
 
 #[tactic(auto, unfolding(crate::specs::Reply::read_reply, crate::specs::Inner::Loading::told, crate::specs::Inner::Loading::outcome))]
@@ -218,8 +222,8 @@ pub(crate) fn read_control_reply(s: &[u8], check: bool, text: &mut [u8]) -> Resu
     let (op, next) = read_known::<ControlOp>(s, 0, Mismatch::ControlOp)?;
     match op {
         ControlOp::Create => read_created(s, next, check, text),
-        ControlOp::Finish => read_finished(s, next),
-        ControlOp::Remove => read_removed(s, next),
+        ControlOp::Finish => plain(read_finished(s, next)),
+        ControlOp::Remove => plain(read_removed(s, next)),
     }
 }
 
@@ -293,50 +297,36 @@ fn run_ids(s: &[u8], at: usize, count: u64, check: bool, rows: &mut [u64]) -> Re
 }
 
 #[tactic(auto, using(crate::proofs::RowMessages::no_ids), unfolding(crate::specs::Ids::read_ids, crate::specs::Inner::Loading::told, crate::specs::Inner::Loading::outcome))]
-pub(crate) fn read_ids(
-    s: &[u8],
-    check: bool,
-    text: &mut [u8],
-    rows: &mut [u64],
-    nodes: &mut [u64],
-) -> Result<Found, Refusal>
+pub(crate) fn read_ids(s: &[u8], check: bool, memory: &mut Memory<'_>) -> Result<Found, Refusal>
     requires { length s.now ≤ 4294967296 }
-    ensures { Reads check (laid_as lay_ids (read_ids s.now)) text.old rows.old nodes.old result text.new rows.new nodes.new }
+    ensures { ReadsInto check (laid_as lay_ids (read_ids s.now)) memory.old memory.new result }
 {
     let (count, p) = get_u64(s, 0)?;
-    run_ids(s, p, count, check, rows)?;
+    run_ids(s, p, count, check, memory.rows)?;
     Ok(rowed(Message::Ids { count }, 0, count as usize, 0))
 }
 
-#[tactic(auto, using(crate::proofs::RowMessages::no_types, varint::proofs::FormatParts::num_inside), unfolding(crate::specs::Types::read_types, crate::specs::Inner::Loading::told, crate::specs::Inner::Loading::outcome, crate::specs::Inner::Loading::Within))]
+#[inline(always)]
+#[tactic(auto, using(varint::proofs::FormatParts::num_inside), unfolding(crate::specs::Types::read_types, crate::specs::Inner::Loading::told, crate::specs::Inner::Loading::outcome, crate::specs::Inner::Loading::Within))]
 pub(crate) fn read_types(
     s: &[u8],
     check: bool,
     limit: u64,
-    text: &mut [u8],
-    rows: &mut [u64],
-    nodes: &mut [u64],
+    memory: &mut Memory<'_>,
 ) -> Result<Found, Refusal>
-    requires { length s.now ≤ 4294967296 }
-    ensures { Reads check (laid_as lay_types (read_types check limit s.now)) text.old rows.old nodes.old result text.new rows.new nodes.new }
+    requires { Empty memory.old × (length s.now ≤ 4294967296) }
+    ensures { ReadsInto check (laid_as lay_types (read_types check limit s.now)) memory.old memory.new result }
 {
-    let kind = RowKind::Predicate;
     let (count, p) = get_u64(s, 0)?;
-    let past = read_rows(kind, count, s, p, check, limit, text, 0, rows, nodes)?;
-    let numbers = (count * 6) as usize;
-    Ok(rowed(Message::Types { count }, past.text, numbers, past.nodes))
+    read_rows::<Predicate>(count, s, p, check, limit, memory)?;
+    Ok(rowed(Message::Types { count }, memory.t, memory.r, memory.n))
 }
 
+#[inline(always)]
 #[tactic(auto, using(varint::proofs::FormatParts::num_inside), unfolding(crate::specs::Profile::read_profile, crate::specs::Inner::Loading::told, crate::specs::Inner::Loading::outcome, crate::specs::Inner::Loading::Within))]
-pub(crate) fn read_profile(
-    s: &[u8],
-    check: bool,
-    text: &mut [u8],
-    rows: &mut [u64],
-    nodes: &mut [u64],
-) -> Result<Found, Refusal>
-    requires { length s.now ≤ 4294967296 }
-    ensures { Reads check (laid_as lay_profile (read_profile check s.now)) text.old rows.old nodes.old result text.new rows.new nodes.new }
+pub(crate) fn read_profile(s: &[u8], check: bool, memory: &mut Memory<'_>) -> Result<Found, Refusal>
+    requires { Empty memory.old × (length s.now ≤ 4294967296) }
+    ensures { ReadsInto check (laid_as lay_profile (read_profile check s.now)) memory.old memory.new result }
 {
     let (steps, p) = get_u64(s, 0)?;
     let length = s.len() as u64;
@@ -346,24 +336,18 @@ pub(crate) fn read_profile(
             available: length,
         });
     }
-    let past = read_rows(RowKind::Step, steps, s, p, check, 0, text, 0, rows, nodes)?;
-    if past.next < s.len() {
-        return Err(left_over(s, past.next));
+    let next = read_rows::<Step>(steps, s, p, check, 0, memory)?;
+    if next < s.len() {
+        return Err(left_over(s, next));
     }
-    let numbers = (steps * 4) as usize;
-    Ok(rowed(Message::Profile { steps }, past.text, numbers, past.nodes))
+    Ok(rowed(Message::Profile { steps }, memory.t, memory.r, memory.n))
 }
 
+#[inline(always)]
 #[tactic(auto, using(varint::proofs::FormatParts::num_inside), unfolding(crate::specs::Fetch::read_fetch, crate::specs::Inner::Loading::told, crate::specs::Inner::Loading::outcome, crate::specs::Inner::Loading::Within))]
-pub(crate) fn read_fetch(
-    s: &[u8],
-    check: bool,
-    text: &mut [u8],
-    rows: &mut [u64],
-    nodes: &mut [u64],
-) -> Result<Found, Refusal>
-    requires { length s.now ≤ 4294967296 }
-    ensures { Reads check (laid_as lay_fetch (read_fetch s.now)) text.old rows.old nodes.old result text.new rows.new nodes.new }
+pub(crate) fn read_fetch(s: &[u8], check: bool, memory: &mut Memory<'_>) -> Result<Found, Refusal>
+    requires { Empty memory.old × (length s.now ≤ 4294967296) }
+    ensures { ReadsInto check (laid_as lay_fetch (read_fetch s.now)) memory.old memory.new result }
 {
     let (digest, next) = read_digest(s, 0)?;
     let (count, p) = get_u64(s, next)?;
@@ -373,112 +357,81 @@ pub(crate) fn read_fetch(
             max: Message::MAX_FETCH,
         });
     }
-    let past = read_rows(RowKind::Pair, count, s, p, check, 0, text, 0, rows, nodes)?;
-    if past.next < s.len() {
-        return Err(left_over(s, past.next));
+    let end = read_rows::<Pair>(count, s, p, check, 0, memory)?;
+    if end < s.len() {
+        return Err(left_over(s, end));
     }
     let message = Message::Fetch { digest, count };
-    Ok(rowed(message, past.text, count as usize, past.nodes))
+    Ok(rowed(message, memory.t, memory.r, memory.n))
 }
 
-// What follows the version and the database of a startup; `len` bytes of text are taken.
+// What follows the version and the database of a startup; the text has the database.
+#[inline(always)]
 #[tactic(auto, using(varint::proofs::FormatParts::num_inside), unfolding(crate::specs::Inner::Loading::told, crate::specs::Inner::Loading::session_outcome, crate::specs::Inner::Loading::Within))]
 fn read_session(
     s: &[u8],
     at: usize,
     version: u64,
-    len: usize,
     check: bool,
-    text: &mut [u8],
-    rows: &mut [u64],
-    nodes: &mut [u64],
+    memory: &mut Memory<'_>,
 ) -> Result<Found, Refusal>
-    requires { (len ≤ at) × (at ≤ length s.now) × (length s.now ≤ 4294967296) }
-    ensures { SessionRead check version len (ended s.now ((session check).read s.now at)) text.old rows.old nodes.old result text.new rows.new nodes.new }
+    requires { (memory.old.t ≤ at) × (at ≤ length s.now) × (length s.now ≤ 4294967296) × (memory.old.r ≡ 0) × (memory.old.n ≡ 0) }
+    ensures { SessionInto check version (ended s.now ((session check).read s.now at)) memory.old memory.new result }
 {
+    let database = span(0, memory.t);
     let (mode, p) = read_known::<Mode>(s, at, Mismatch::Mode)?;
     let (fingerprint, q) = get_u64(s, p)?;
     let (claims, r) = get_u64(s, q)?;
-    let past = read_rows(
-        RowKind::Claim,
-        claims,
-        s,
-        r,
-        check,
-        0,
-        text,
-        len,
-        rows,
-        nodes,
-    )?;
-    if past.next < s.len() {
-        return Err(left_over(s, past.next));
+    let end = read_rows::<Claim>(claims, s, r, check, 0, memory)?;
+    if end < s.len() {
+        return Err(left_over(s, end));
     }
     if MAX_U32 < version {
         return Err(Refusal::TypeMismatch(Mismatch::Version));
     }
     let message = Message::Startup {
         version: version as u32,
-        database: span(0, len),
+        database,
         mode,
         schema_fingerprint: fingerprint,
         claims,
     };
-    let numbers = (claims * 3) as usize;
-    Ok(rowed(message, past.text, numbers, past.nodes))
+    Ok(rowed(message, memory.t, memory.r, memory.n))
 }
 
+#[inline(always)]
 #[tactic(auto, unfolding(crate::specs::Startup::read_startup, crate::specs::Inner::Loading::told, crate::specs::Inner::Loading::outcome))]
-pub(crate) fn read_startup(
-    s: &[u8],
-    check: bool,
-    text: &mut [u8],
-    rows: &mut [u64],
-    nodes: &mut [u64],
-) -> Result<Found, Refusal>
-    requires { length s.now ≤ 4294967296 }
-    ensures { Reads check (laid_as lay_startup (read_startup check s.now)) text.old rows.old nodes.old result text.new rows.new nodes.new }
+pub(crate) fn read_startup(s: &[u8], check: bool, memory: &mut Memory<'_>) -> Result<Found, Refusal>
+    requires { Empty memory.old × (length s.now ≤ 4294967296) }
+    ensures { ReadsInto check (laid_as lay_startup (read_startup check s.now)) memory.old memory.new result }
 {
     let (version, p) = get_u64(s, 0)?;
-    let (database, q) = read_name(s, p, check, text, 0)?;
-    read_session(s, q, version, database.len, check, text, rows, nodes)
+    let (_, q) = memory.name(s, p, check)?;
+    read_session(s, q, version, check, memory)
 }
 
-// Message `entry` of a payload, one of those that have numbers alone.
-pub(crate) fn read_bare(entry: u8, s: &[u8]) -> Result<Found, Refusal>
-    requires { BareEntry entry }
-    ensures { ReadsEntry entry s.now result }
-{
-    match entry {
-        2 => read_ready(s),
-        4 => read_complete(s),
-        _ => read_listing_digest(s),
-    }
-}
-
-// Message `entry` of a payload, one of the others.
+// The message of a payload that an entry names, one of those that take memory. A `match`, since the wire says which.
+#[inline(always)]
 #[tactic(auto, unfolding(crate::specs::Said::read_entry, crate::specs::Said::lay))]
 pub(crate) fn read_message(
-    entry: u8,
+    entry: Entry,
     s: &[u8],
     check: bool,
     limit: u64,
-    text: &mut [u8],
-    rows: &mut [u64],
-    nodes: &mut [u64],
+    memory: &mut Memory<'_>,
 ) -> Result<Found, Refusal>
-    requires { RoomyEntry entry × (length s.now ≤ 4294967296) }
-    ensures { Reads check (laid_as lay (read_entry check limit entry s.now)) text.old rows.old nodes.old result text.new rows.new nodes.new }
+    requires { RoomyEntry (entry_number entry) × Empty memory.old × (length s.now ≤ 4294967296) }
+    ensures { ReadsInto check (laid_as lay (read_entry check limit (entry_number entry) s.now)) memory.old memory.new result }
 {
     match entry {
-        1 => read_startup(s, check, text, rows, nodes),
-        3 => read_error(s, check, text),
-        5 => read_ids(s, check, text, rows, nodes),
-        6 => read_types(s, check, limit, text, rows, nodes),
-        7 => read_control(s, check, text),
-        8 => read_control_reply(s, check, text),
-        9 => read_profile(s, check, text, rows, nodes),
-        10 => read_page(s, check, text),
-        _ => read_fetch(s, check, text, rows, nodes),
+        Entry::Startup => read_startup(s, check, memory),
+        Entry::Error => read_error(s, check, memory.text),
+        Entry::Ids => read_ids(s, check, memory),
+        Entry::Types => read_types(s, check, limit, memory),
+        Entry::Control => read_control(s, check, memory.text),
+        Entry::Reply => read_control_reply(s, check, memory.text),
+        Entry::Profile => read_profile(s, check, memory),
+        Entry::Page => read_page(s, check, memory.text),
+        _ => read_fetch(s, check, memory),
     }
 }

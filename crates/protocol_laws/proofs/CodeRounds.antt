@@ -5,7 +5,7 @@ use Prim.Native.Nat.{ℕ}
 use native.Mathlib.Omega.{arith}
 use lib.Dec.{eqb}
 use borrow.Author.Tests.{eqb-true}
-use Rattle.varint.proofs.Basics.{pick_cases}
+use Rattle.varint.proofs.Basics.{pick_cases, never}
 use Rattle.protocol.specs.Codes.{mode_byte, mode_of, error_byte, error_of, op_byte, op_of}
 use Rattle.protocol.specs.declared.message.Mode.{Mode}
 use Rattle.protocol.specs.declared.message.Mode.TheVariants.{ReadOnly, ReadWrite}
@@ -24,7 +24,7 @@ pub mode_only : (b : ℕ) (x : Mode) → mode_of b ≡ Ok x → mode_byte x ≡ 
 mode_only b x =
     pick_cases P (eqb b 0) (λ t. known ReadOnly 0 refl t)
     (λ _. pick_cases P (eqb b 1) (λ t. known ReadWrite 1 refl t)
-    (λ _ e. let z : ◌≡◌ {A = ℕ} 0 1 = cc in absurd (omega arith)))
+    (λ _ e. never cc))
   where
     P : Result Mode Refusal → Type 0
     P y = y ≡ Ok x → mode_byte x ≡ b
@@ -58,7 +58,7 @@ error_only b x =
     (λ _. pick_cases P (eqb b 9) (λ t. known InUse 9 refl t)
     (λ _. pick_cases P (eqb b 10) (λ t. known Refused 10 refl t)
     (λ _. pick_cases P (eqb b 11) (λ t. known Busy 11 refl t)
-    (λ _ e. let z : ◌≡◌ {A = ℕ} 0 1 = cc in absurd (omega arith))))))))))))
+    (λ _ e. never cc)))))))))))
   where
     P : Result ErrorCode Refusal → Type 0
     P y = y ≡ Ok x → error_byte x ≡ b
@@ -76,7 +76,7 @@ op_only b x =
     pick_cases P (eqb b 1) (λ t. known Create 1 refl t)
     (λ _. pick_cases P (eqb b 2) (λ t. known Finish 2 refl t)
     (λ _. pick_cases P (eqb b 3) (λ t. known Remove 3 refl t)
-    (λ _ e. let z : ◌≡◌ {A = ℕ} 0 1 = cc in absurd (omega arith))))
+    (λ _ e. never cc)))
   where
     P : Result ControlOp Refusal → Type 0
     P y = y ≡ Ok x → op_byte x ≡ b

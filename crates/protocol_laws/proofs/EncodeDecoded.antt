@@ -10,7 +10,7 @@ use borrow.Author.Tests.{ltb-false, le-ltb}
 use Rattle.varint.specs.Got.{Got}
 use Rattle.varint.specs.Outs.{send}
 use Rattle.varint.specs.declared.error.Refusal.{Refusal}
-use Rattle.varint.proofs.Basics.{pick_cases}
+use Rattle.varint.proofs.Basics.{pick_cases, never}
 use Rattle.varint.proofs.StoreLaws.{filled_fits}
 use Rattle.protocol.specs.Decoding.{Left, kept, fitted, settled, decode_message}
 use Rattle.protocol.specs.Encoding.{sent, encode_message}
@@ -37,7 +37,7 @@ module _ (tx rs nd : List ℕ) (message : Message) (tx' rs' nd' : List ℕ) wher
     nodes : nd' ≡ l.piece.nodes 0 0 ++ nodes_rest
 
   not_kept : {X : Type 0} (e : Refusal) → kept e tx rs nd ≡ accepted → X
-  not_kept e h = let a = ap (λ (x : Left). x.answer) h in let z : ◌≡◌ {A = ℕ} 0 1 = cc in absurd (omega arith)
+  not_kept e h = let a = ap (λ (x : Left). x.answer) h in never cc
 
   fitted_laid : (l : Laid) → fitted l tx rs nd ≡ accepted → LaidAs l
   unfolding fitted

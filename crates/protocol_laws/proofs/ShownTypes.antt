@@ -10,7 +10,7 @@ use lib.ListN.{length, get_or}
 use borrow.Author.Tests.{eqb-true, leb-true}
 use Rattle.varint.specs.Choice.{pick}
 use Rattle.varint.specs.Gathering.{Held, held, lacks, then_held, name_held}
-use Rattle.varint.proofs.Basics.{pick_both, pick_cases, test, both}
+use Rattle.varint.proofs.Basics.{pick_both, pick_cases, test, both, never}
 use Rattle.varint.proofs.FormatEnds.{total}
 use Rattle.desc.specs.Encoding.{held_in}
 use Rattle.desc.specs.Layout.{width, end_at}
@@ -99,7 +99,7 @@ module _ (limit : ℕ) (tx rs nd : List ℕ) where
             let z : cell nd (at 5) end_at + (lay_value v).size ≡ e = rw b.ends n₁ in
             rw (← same)
             (record { row = type_row; next = omega arith; last = c.ends ∙ z; nodes = type_nodes }))
-            (λ i. let z : ◌≡◌ {A = ℕ} 0 1 = cc (rw i at h) in absurd (omega arith))
+            (λ i. never (cc (rw i at h)))
 
     predicate_shown : HeldAs (TypeLaid r) (held_predicate limit tx rs nd r)
     unfolding held_predicate
@@ -146,7 +146,7 @@ module _ (limit : ℕ) (tx rs nd : List ℕ) where
   types_more n r p l first rest k e h = on (type_laid limit rs nd r k) refl h
     where
       on : (x : Held ℕ) → type_laid limit rs nd r k ≡ x → then_held x (λ m. types_laid limit rs nd n (r + type_width) m) ≡ held e → TypesShown (suc n) r (p ∷ l) k e
-      on (lacks y) i j = let z : ◌≡◌ {A = ℕ} 0 1 = cc in absurd (omega arith)
+      on (lacks y) i j = never cc
       on (held m) i j =
           let a = first k m i in
           let b = rest m e j in

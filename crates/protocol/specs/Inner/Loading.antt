@@ -8,27 +8,27 @@ use Rattle.varint.specs.Formats.{Format, varint, ◌⊗◌, counted, read_times}
 use Rattle.varint.specs.declared.error.Mismatch.TheVariants as M
 use Rattle.varint.specs.declared.error.Refusal.{Refusal}
 use Rattle.varint.specs.declared.error.Refusal.TheVariants.{TypeMismatch}
-use Rattle.varint.specs.Stores.{part}
-use Rattle.desc.specs.Decoding.{Stored, filled_by, walked_to}
+use Rattle.varint.specs.Stores.{part, clear_from}
+use Rattle.desc.specs.Decoding.{filled_by}
 use Rattle.desc.specs.Layout.{width}
 use Rattle.desc.specs.Trees.{Tree}
-use Rattle.desc.specs.declared.Walked.{Walked}
+use Rattle.protocol.specs.Decoding.{Left, kept}
 use Rattle.protocol.specs.Fetch.{pair}
 use Rattle.protocol.specs.Fields.{narrow, mode, bit, wide_flag, descriptor, Optional, optional}
 use Rattle.protocol.specs.Ids.{lay_id}
 use Rattle.protocol.specs.Laying.{Laid}
 use Rattle.protocol.specs.Pieces.{Piece, none, cells, tree, ◌⊕◌, many}
-use Rattle.protocol.specs.Profile.{step, lay_step}
+use Rattle.protocol.specs.Profile.{Step, step, lay_step}
 use Rattle.protocol.specs.Reply.{Finished, finished, lay_reply}
 use Rattle.protocol.specs.Said.{read_entry, lay}
 use Rattle.protocol.specs.Startup.{Claim, claim, lay_claim}
-use Rattle.protocol.specs.Types.{predicate, has_value, lay_value, lay_predicate}
+use Rattle.protocol.specs.Types.{Predicate, predicate, has_value, lay_value, lay_predicate}
 use Rattle.protocol.specs.declared.message.Message.{Message}
 use Rattle.protocol.specs.declared.message.Message.TheVariants as Msg
 use Rattle.protocol.specs.declared.message.Mode.{Mode}
 use Rattle.protocol.specs.declared.message.RowKind.{RowKind}
 use Rattle.protocol.specs.declared.message.RowKind.TheVariants as K
-use Rattle.protocol.specs.declared.rows.Flat.{Flat}
+use Rattle.protocol.specs.declared.memory.Memory.{Memory}
 use Rattle.protocol.specs.declared.read.Found.{Found}
 use Rattle.varint.specs.declared.text.Span.{Span}
 
@@ -44,6 +44,31 @@ pub record Mem : Type 0 where
   pub r : ℕ
   pub nodes : List ℕ
   pub n : ℕ
+
+-- as the code holds it
+abbrev pub mem : Memory → Mem
+mem m = record { text = m.text.now; t = m.t; rows = m.rows.now; r = m.r; nodes = m.nodes.now; n = m.n }
+
+-- It is still the same three buffers; and was changed so.
+abbrev pub SameBuffers : Memory → Memory → Type 0
+SameBuffers before after =
+    (after.text.ghost_name ≡ before.text.ghost_name) × (after.rows.ghost_name ≡ before.rows.ghost_name) × (after.nodes.ghost_name ≡ before.nodes.ghost_name)
+
+abbrev pub Becomes : (Mem → Mem) → Memory → Memory → Type 0
+Becomes change before after = SameBuffers before after × (mem after ≡ change (mem before))
+
+-- numbers of a row, a text that was found, and a descriptor that was found but not yet passed
+abbrev pub with_row : Bool → List ℕ → Mem → Mem
+with_row check x m = record { text = m.text; t = m.t; rows = stored check m.rows m.r x; r = m.r + length x; nodes = m.nodes; n = m.n }
+
+abbrev pub with_text : Bool → List ℕ → Got Span → Mem → Mem
+with_text check s (Ok (x, next)) m = record { text = stored check m.text m.t (part s x.start x.len); t = m.t + x.len; rows = m.rows; r = m.r; nodes = m.nodes; n = m.n }
+with_text check s (Err e) m = m
+
+abbrev pub with_desc : Bool → Got (Tree (List ℕ)) → Mem → Mem
+with_desc true g m = m
+with_desc false g m =
+    record { text = (filled_by g m.text m.t m.nodes m.n).text; t = m.t; rows = m.rows; r = m.r; nodes = (filled_by g m.text m.t m.nodes m.n).nodes; n = m.n }
 
 abbrev pub put : Bool → Piece → Mem → Mem
 put check p m =
@@ -61,55 +86,53 @@ pub data Loaded : Type 0 where
   loaded : ℕ → Mem → Loaded
   failed : Refusal → Loaded
 
+-- what a reader answers, with the memory after it
+unfoldable pub told_row : Result ℕ Refusal → Mem → Loaded
+told_row (Ok q) m = loaded q m
+told_row (Err e) m = failed e
+
+abbrev pub Loads : (Mem → Loaded) → Memory → Memory → Result ℕ Refusal → Type 0
+Loads change before after x = SameBuffers before after × (told_row x (mem after) ≡ change (mem before))
+
+-- At place `at` of the bytes, so much of them has been read that no place in text or nodes overflows; and none in rows.
+abbrev pub Fits : List ℕ → ℕ → Mem → Type 0
+Fits s at m = (m.t + m.n ≤ at) × (at ≤ length s)
+
+abbrev pub RowFits : List ℕ → ℕ → Mem → Type 0
+RowFits s at m = Fits s at m × (m.r ≤ 2 * at)
+
 unfoldable pub load : {A : Type 0} → Bool → (A → Piece) → Got A → Mem → Loaded
 load check piece (Ok (a, q)) m = loaded q (put check (piece a) m)
 load check piece (Err e) m = failed e
 
--- a row of each kind at place `at`, and `count` of them
+-- what a row of each kind is, how it is read, and what it leaves in memory
+abbrev pub Row : RowKind → Type 0
+Row K.Claim = Claim
+Row K.Id = ℕ
+Row K.Predicate = Predicate
+Row K.Step = Step
+Row K.Pair = ℕ
+
+abbrev pub row : (kind : RowKind) → Bool → ℕ → Format (Row kind)
+row K.Claim check limit = claim check
+row K.Id check limit = varint
+row K.Predicate check limit = predicate check limit
+row K.Step check limit = step check
+row K.Pair check limit = pair
+
+abbrev pub lay_row : (kind : RowKind) → Row kind → Piece
+lay_row K.Claim = lay_claim
+lay_row K.Id = lay_id
+lay_row K.Predicate = lay_predicate
+lay_row K.Step = lay_step
+lay_row K.Pair = lay_id
+
+-- a row at place `at`, and `count` of them
 unfoldable pub load_row : RowKind → Bool → ℕ → List ℕ → ℕ → Mem → Loaded
-load_row K.Claim check limit s at m = load check lay_claim ((claim check).read s at) m
-load_row K.Id check limit s at m = load check lay_id (varint.read s at) m
-load_row K.Predicate check limit s at m = load check lay_predicate ((predicate check limit).read s at) m
-load_row K.Step check limit s at m = load check lay_step ((step check).read s at) m
-load_row K.Pair check limit s at m = load check lay_id (pair.read s at) m
+load_row kind check limit s at m = load check (lay_row kind) ((row kind check limit).read s at) m
 
 unfoldable pub load_rows : RowKind → Bool → ℕ → ℕ → List ℕ → ℕ → Mem → Loaded
-load_rows K.Claim check limit count s at m = load check (many lay_claim) (read_times (claim check) count s at) m
-load_rows K.Id check limit count s at m = load check (many lay_id) (read_times varint count s at) m
-load_rows K.Predicate check limit count s at m = load check (many lay_predicate) (read_times (predicate check limit) count s at) m
-load_rows K.Step check limit count s at m = load check (many lay_step) (read_times (step check) count s at) m
-load_rows K.Pair check limit count s at m = load check (many lay_id) (read_times pair count s at) m
-
--- the places past a row without nodes
-abbrev pub flat_to : ℕ → ℕ → Flat
-flat_to next t = record { next = next; text = t }
-
--- what a reader of rows answers, with the memory after it; r is where the next row goes
-unfoldable pub told_row : ℕ → Result Walked Refusal → List ℕ → List ℕ → List ℕ → Loaded
-told_row r (Ok w) tx rs nd = loaded w.next (record { text = tx; t = w.text; rows = rs; r = r; nodes = nd; n = w.nodes })
-told_row r (Err e) tx rs nd = failed e
-
--- a row without nodes, with the memory after it
-unfoldable pub told_flat : ℕ → Result Flat Refusal → List ℕ → List ℕ → List ℕ → ℕ → Loaded
-told_flat r (Ok w) tx rs nd n = loaded w.next (record { text = tx; t = w.text; rows = rs; r = r; nodes = nd; n = n })
-told_flat r (Err e) tx rs nd n = failed e
-
--- A row that stands in so many numbers from r on, its texts from place t on, is loaded as it was read, whatever the nodes.
-pub record LoadsFlat {A : Type 0} (check : Bool) (piece : A → Piece) (g : Got A) (tx : List ℕ) (t : ℕ) (rs : List ℕ) (r w : ℕ) (x : Result Flat Refusal) (tx' rs' : List ℕ) : Type 0 where
-  pub is : (nd : List ℕ) (n : ℕ)
-      → told_flat (r + w) x tx' rs' nd n ≡ load check piece g (record { text = tx; t = t; rows = rs; r = r; nodes = nd; n = n })
-
--- so of a row without texts, whatever the text
-pub record LoadsCells {A : Type 0} (check : Bool) (piece : A → Piece) (g : Got A) (t : ℕ) (rs : List ℕ) (r w : ℕ) (x : Result Flat Refusal) (rs' : List ℕ) : Type 0 where
-  pub is : (tx : List ℕ) → LoadsFlat check piece g tx t rs r w x tx rs'
-
-abbrev pub beside : Result Flat Refusal → ℕ → Result Walked Refusal
-beside (Ok w) n = Ok (walked_to w.next w.text n)
-beside (Err e) n = Err e
-
--- A part with nodes and without rows is loaded as it was read, whatever the rows.
-pub record LoadsNodes {A : Type 0} (check : Bool) (piece : A → Piece) (g : Got A) (tx : List ℕ) (t : ℕ) (nd : List ℕ) (n : ℕ) (x : Result Walked Refusal) (tx' nd' : List ℕ) : Type 0 where
-  pub is : (rs : List ℕ) (r : ℕ) → told_row r x tx' rs nd' ≡ load check piece g (record { text = tx; t = t; rows = rs; r = r; nodes = nd; n = n })
+load_rows kind check limit count s at m = load check (many (lay_row kind)) (read_times (row kind check limit) count s at) m
 
 -- What follows a type's name. The last three numbers of the type's row are told by it.
 abbrev pub sides : Bool → ℕ → Format (Bool × (Tree (List ℕ) × Optional (Tree (List ℕ))))
@@ -118,24 +141,15 @@ sides check limit = wide_flag ⊗ descriptor check limit ⊗ optional (descripto
 abbrev pub lay_sides : Bool × (Tree (List ℕ) × Optional (Tree (List ℕ))) → Piece
 lay_sides c = cells (λ t n. bit c.0 ∷ bit (has_value c.1.1) ∷ n ∷ []) ⊕ tree c.1.0 ⊕ lay_value c.1.1
 
--- what a descriptor leaves of text and nodes
-abbrev pub desc_left : Bool → Got (Tree (List ℕ)) → List ℕ → ℕ → List ℕ → ℕ → Stored
-desc_left true g tx t nd n = record { text = tx; nodes = nd }
-desc_left false g tx t nd n = filled_by g tx t nd n
-
--- Rows that end at `next` took so much of the bytes that nothing overflows.
-unfoldable pub Within : List ℕ → ℕ → Result Walked Refusal → Type 0
-Within s r (Ok w) = (w.text + w.nodes ≤ w.next) × (w.next ≤ length s) × (r ≤ 2 * w.next)
-Within s r (Err e) = Unit
+-- so where a reader has read up to `next`
+unfoldable pub Within : List ℕ → Result ℕ Refusal → Mem → Type 0
+Within s (Ok next) m = Fits s next m
+Within s (Err e) m = Unit
 
 -- the text that was read at place t of the lent text
 abbrev pub text_left : Bool → List ℕ → Got Span → List ℕ → ℕ → List ℕ
 text_left check s (Ok (x, next)) tx t = stored check tx t (part s x.start x.len)
 text_left check s (Err e) tx t = tx
-
--- `count` rows are loaded as they were read; the next would go to number k
-pub record LoadsRows (kind : RowKind) (check : Bool) (limit count : ℕ) (s : List ℕ) (at : ℕ) (tx : List ℕ) (t : ℕ) (rs nd : List ℕ) (k : ℕ) (x : Result Walked Refusal) (tx' rs' nd' : List ℕ) : Type 0 where
-  pub is : told_row k x tx' rs' nd' ≡ load_rows kind check limit count s at (record { text = tx; t = t; rows = rs; r = 0; nodes = nd; n = 0 })
 
 -- a whole message: its fields, its sizes in bytes and numbers, and the memory
 pub data Outcome : Type 0 where
@@ -160,17 +174,34 @@ unfoldable pub told : Result Found Refusal → List ℕ → List ℕ → List �
 told (Ok f) tx rs nd = done f.message f.text f.rows f.nodes tx rs nd
 told (Err e) tx rs nd = refused e
 
--- a message without texts, rows and nodes
-unfoldable pub bare : Got Laid → Result Found Refusal
-bare (Ok (l, q)) = Ok (found_with l.message 0 0 0)
+-- a message without texts, rows and nodes, and how much it takes of them
+unfoldable pub bare : Got Laid → Result Message Refusal
+bare (Ok (l, q)) = Ok l.message
 bare (Err e) = Err e
 
-pub record ReadsBare (g : Got Laid) (x : Result Found Refusal) : Type 0 where
+pub record ReadsBare (g : Got Laid) (x : Result Message Refusal) : Type 0 where
   pub is : x ≡ bare g
+
+abbrev pub plainly : Result Message Refusal → Result Found Refusal
+plainly (Ok m) = Ok (found_with m 0 0 0)
+plainly (Err e) = Err e
+
+-- what it leaves of the lent memory
+abbrev pub bare_left : Result Message Refusal → List ℕ → List ℕ → List ℕ → Left
+bare_left (Ok m) tx rs nd = record { answer = Ok m; text = clear_from tx 0; rows = clear_from rs 0; nodes = clear_from nd 0 }
+bare_left (Err e) tx rs nd = kept e tx rs nd
 
 -- A message is read as it is laid out, into any memory; so where it has texts alone, whatever the rows and nodes.
 pub record Reads (check : Bool) (g : Got Laid) (tx rs nd : List ℕ) (x : Result Found Refusal) (tx' rs' nd' : List ℕ) : Type 0 where
   pub is : told x tx' rs' nd' ≡ outcome check g tx rs nd
+
+-- so into a memory of which nothing is taken yet
+abbrev pub Empty : Memory → Type 0
+Empty m = (m.t ≡ 0) × (m.r ≡ 0) × (m.n ≡ 0)
+
+abbrev pub ReadsInto : Bool → Got Laid → Memory → Memory → Result Found Refusal → Type 0
+ReadsInto check g before after x =
+    SameBuffers before after × Reads check g before.text.now before.rows.now before.nodes.now x after.text.now after.rows.now after.nodes.now
 
 pub record ReadsText (check : Bool) (g : Got Laid) (tx : List ℕ) (x : Result Found Refusal) (tx' : List ℕ) : Type 0 where
   pub is : (rs nd : List ℕ) → Reads check g tx rs nd x tx' rs nd
@@ -201,16 +232,18 @@ session_outcome check version len (Err e) tx rs nd = refused e
 pub record SessionRead (check : Bool) (version len : ℕ) (g : Got (Mode × (ℕ × List Claim))) (tx rs nd : List ℕ) (x : Result Found Refusal) (tx' rs' nd' : List ℕ) : Type 0 where
   pub is : told x tx' rs' nd' ≡ session_outcome check version len g tx rs nd
 
+-- so into a memory of which the database's text is taken
+abbrev pub SessionInto : Bool → ℕ → Got (Mode × (ℕ × List Claim)) → Memory → Memory → Result Found Refusal → Type 0
+SessionInto check version g before after x =
+    SameBuffers before after
+    × SessionRead check version before.t g before.text.now before.rows.now before.nodes.now x after.text.now after.rows.now after.nodes.now
+
 -- an entry that names no message
 abbrev pub Opaque : ℕ → Type 0
 Opaque entry = (entry ≡ 0) ⊎ (12 < entry)
 
--- an entry that names a message of numbers alone: ready, complete, listing digest
-abbrev pub BareEntry : ℕ → Type 0
-BareEntry entry = (entry ≡ 2) ⊎ ((entry ≡ 4) ⊎ (entry ≡ 12))
-
--- such a message is read as it is laid out, at any depth of descriptors, and takes no memory
-pub record ReadsEntry (entry : ℕ) (s : List ℕ) (x : Result Found Refusal) : Type 0 where
+-- an entry that names a message of numbers alone: it is read as it is laid out, at any depth of descriptors, and takes no memory
+pub record ReadsEntry (entry : ℕ) (s : List ℕ) (x : Result Message Refusal) : Type 0 where
   pub reads : (limit : ℕ) → ReadsBare (laid_as lay (read_entry true limit entry s)) x
   pub empty : (limit : ℕ) (l : Laid) (q : ℕ) → laid_as lay (read_entry true limit entry s) ≡ Ok (l, q) → l.piece ≡ none
 

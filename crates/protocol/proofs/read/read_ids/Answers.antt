@@ -9,6 +9,8 @@ pub returns : goal.returns
 unfolding lay_ids
 returns c =
     let a = c.args in
-    let w = ids_went _ _ _ c.run_ids.ensures.0 c.in_ok-run_ids.was a.check a.text.now a.rows.now a.nodes.now c.run_ids.ensures.1 in
-    rows_read w (ap (laid_as lay_ids) (ids_read a.check a.s.now (sym c.get_u64.ensures ∙ c.in_ok-count.was) w.is)) refl refl
-    (rw (← w.counted, c.rowed.ensures))
+    let w = ids_went _ _ _ c.run_ids.ensures.0 c.in_ok-run_ids.was a.check a.memory.now.text.now a.memory.now.rows.now a.memory.now.nodes.now c.run_ids.ensures.1 in (
+      (refl, refl, refl),
+      rows_read w (ap (laid_as lay_ids) (ids_read a.check a.s.now (sym c.get_u64.ensures ∙ c.in_ok-count.was) w.is)) refl refl
+          (rw (← w.counted, c.rowed.ensures)),
+    )

@@ -7,6 +7,3 @@ use Rattle.protocol.proofs.read.rest_good.Goals as goal
 
 pub returns-then-check : goal.returns-then-check
 returns-then-check c = rw c.if-check.true (c.is_utf8.ensures ∙ utf8_at_in c.args.s.now c.args.at _ (omega arith) ∙ ap utf8 (part_rest c.args.s.now c.args.at))
-
-pub returns : goal.returns
-returns c = rw c.if-check.false

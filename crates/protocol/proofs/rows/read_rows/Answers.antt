@@ -1,38 +1,33 @@
-use borrow.Author.Rules.{rules}
+use mathlib.Core.Path.{◌∙◌}
 use native.Mathlib.Omega.{arith}
 use Rattle.std.proofs.lemmas.Result.{err_from_is_err_and}
-use Rattle.protocol.specs.Inner.Loading.{told_row}
-use Rattle.protocol.proofs.RowsLoop.{going_start, going_done, going_failed, going_step, took_one}
+use Rattle.protocol.specs.Inner.Loading.{load_rows, mem, Within}
+use Rattle.protocol.proofs.RowsLoop.{rows_done, rows_stop, rows_on, row_fits}
 use Rattle.protocol.proofs.rows.read_rows.Goals as goal
 
-pub loop-init : goal.loop-init
-loop-init c = going_start c.args.kind c.args.count c.args.s.now c.args.at c.args.check c.args.limit c.args.text.now c.args.t c.args.rows.now c.args.nodes.now (omega arith) c.width-width.ensures c.requires.0 c.requires.1
-
-pub read_row-requires : goal.read_row-requires
-read_row-requires c =
-    let g = c.loop.invariant in
-    (g.texts, g.inside, g.numbers)
-
-pub returns-in_err-past : goal.returns-in_err-past
-unfolding told_row
-returns-in_err-past c =
+pub returns-in_err-next : goal.returns-in_err-next
+unfolding Within
+returns-in_err-next g c =
     let p = err_from_is_err_and c.from_residual.result c.from_residual.ensures.1 in
-    rw (p.1, p.2) (going_failed c.args.kind c.args.count c.args.s.now c.args.at c.args.check c.args.limit c.args.text.now c.args.t c.args.rows.now c.args.nodes.now c.loop.invariant (omega arith) (rw c.in_err-past.was at c.read_row.ensures))
-
-pub overflow_add-r : goal.overflow_add-r
-unfolding told_row
-overflow_add-r c =
-    let k = took_one c.args.kind c.args.count c.args.s.now c.args.at c.args.check c.args.limit c.args.text.now c.args.t c.args.rows.now c.args.nodes.now c.loop.invariant (omega arith) (rw c.in_ok-past.was at c.read_row.ensures) in
-    let k₁ = k.numbers in
-    let k₂ = k.inside in
-    let g = c.loop.invariant in
-    let g₁ = g.numbers in
-    let g₂ = g.wide in
-    search rules
+    let a = c.args in
+    let h = c.loop.invariant.0 in
+    let k = c.read.ensures.0 in
+    rw (p.1, p.2)
+    (((k.0 ∙ h.0, k.1 ∙ h.1, k.2 ∙ h.2), rows_stop g.R.Row.KIND a.check a.limit a.s.now _ _ c.loop.invariant.2 (omega arith) _ _ (rw c.in_err-next.was at c.read.ensures.1)), tt)
 
 pub loop-preserved : goal.loop-preserved
-unfolding told_row
-loop-preserved c = going_step c.args.kind c.args.count c.args.s.now c.args.at c.args.check c.args.limit c.args.text.now c.args.t c.args.rows.now c.args.nodes.now c.loop.invariant (omega arith) (rw c.in_ok-past.was at c.read_row.ensures) (omega arith) (omega arith) (omega arith) (omega arith)
+loop-preserved g c =
+    let a = c.args in
+    let h = c.loop.invariant.0 in
+    let k = c.read.ensures.0 in
+    let one = rw c.in_ok-next.was at c.read.ensures.1 in (
+      (k.0 ∙ h.0, k.1 ∙ h.1, k.2 ∙ h.2),
+      row_fits g.R.Row.KIND a.check a.limit a.s.now _ _ _ _ c.loop.invariant.1 one,
+      rows_on g.R.Row.KIND a.check a.limit a.s.now _ _ c.loop.invariant.2 (omega arith) _ _ one (omega arith),
+    )
 
 pub returns : goal.returns
-returns c = going_done c.args.kind c.args.count c.args.s.now c.args.at c.args.check c.args.limit c.args.text.now c.args.t c.args.rows.now c.args.nodes.now c.loop.invariant (omega arith)
+unfolding Within
+returns g c =
+    let a = c.args in
+    ((c.loop.invariant.0, rows_done g.R.Row.KIND a.check a.limit a.s.now {all = load_rows g.R.Row.KIND a.check a.limit a.count a.s.now a.at (mem a.memory.now)} _ _ c.loop.invariant.2 (omega arith)), c.loop.invariant.1.0)

@@ -1,46 +1,61 @@
-use mathlib.Core.Path.{sym, ◌∙◌}
+use mathlib.Core.Path.{sym, ◌∙◌, ap}
+use borrow.Author.Rules.{rules}
 use native.Mathlib.Omega.{arith}
 use Rattle.std.proofs.lemmas.Result.{err_from_is_err_and}
 use Rattle.protocol.specs.Pieces.{tree}
-use Rattle.protocol.specs.Inner.Loading.{load, told_row, Within}
+use Rattle.protocol.specs.Inner.Loading.{Mem, load, mem, told_row, Within}
 use Rattle.protocol.proofs.FieldEnds.{wide_flag_inside}
-use Rattle.protocol.proofs.TypeLoads.{nodes_went, nodes_refused, sides_read}
+use Rattle.protocol.proofs.TypeLoads.{mem_went, mem_refused, sides_read}
 use Rattle.protocol.proofs.rows.read_sides.Goals as goal
 
-pub read_desc-requires : goal.read_desc-requires
-read_desc-requires c =
+pub desc-requires : goal.desc-requires
+desc-requires c =
     let w = wide_flag_inside c.args.s.now c.args.at _ _ (sym c.read_wide_flag.ensures ∙ c.in_ok-is_virtual.was) in
     let w₀ = w.0 in
     let w₁ = w.1 in
     (omega arith, omega arith)
 
+pub store_three-requires : goal.store_three-requires
+store_three-requires c =
+    let w = wide_flag_inside c.args.s.now c.args.at _ _ (sym c.read_wide_flag.ensures ∙ c.in_ok-is_virtual.was) in
+    let w₀ = w.0 in
+    let w₁ = w.1 in
+    let r = ap (λ (y : Mem). y.r) (mem_went c.args.check tree _ (mem c.args.memory.now) _ _ (rw c.in_ok-q.was at c.desc.ensures.0.1)).left in
+    let h = c.requires.1 in
+    search rules
+
 pub read_value-requires : goal.read_value-requires
 unfolding Within
 read_value-requires c =
-    let v = (rw c.in_ok-key.was at c.read_desc.ensures.1) in
+    let v = rw c.in_ok-q.was at c.desc.ensures.1 in
     let v₀ = v.0 in
     let w = wide_flag_inside c.args.s.now _ _ _ (sym c.read_wide_flag-2.ensures ∙ c.in_ok-has.was) in
     let w₀ = w.0 in
     let w₁ = w.1 in
+    let t = ap (λ (y : Mem). y.t) c.store_three.ensures.1 in
+    let n = ap (λ (y : Mem). y.n) c.store_three.ensures.1 in
     (omega arith, omega arith)
 
-pub returns-in_err-is_virtual : goal.returns-in_err-is_virtual
+pub returns-in_err-q : goal.returns-in_err-q
 unfolding load told_row
-returns-in_err-is_virtual c =
-    let p = err_from_is_err_and c.from_residual.result c.from_residual.ensures.1 in
-    rw (p.1, p.2) (rw (sym c.read_wide_flag.ensures ∙ c.in_err-is_virtual.was))
-
-pub returns-in_err-key : goal.returns-in_err-key
-unfolding load told_row
-returns-in_err-key c =
-    let p = err_from_is_err_and c.from_residual-in_err-key.result c.from_residual-in_err-key.ensures.1 in
-    rw (p.1, p.2) (rw ((sym c.read_wide_flag.ensures ∙ c.in_ok-is_virtual.was), nodes_refused c.args.check tree _ _ _ _ _ _ _ _ (rw c.in_err-key.was at c.read_desc.ensures.0)))
+returns-in_err-q c =
+    let p = err_from_is_err_and c.from_residual-in_err-q.result c.from_residual-in_err-q.ensures.1 in
+    rw (p.1, p.2)
+    (c.desc.ensures.0.0, rw ((sym c.read_wide_flag.ensures ∙ c.in_ok-is_virtual.was), mem_refused c.args.check tree _ (mem c.args.memory.now) _ (rw c.in_err-q.was at c.desc.ensures.0.1)))
 
 pub returns-in_err-has : goal.returns-in_err-has
 unfolding load told_row
 returns-in_err-has c =
     let p = err_from_is_err_and c.from_residual-in_err-has.result c.from_residual-in_err-has.ensures.1 in
-    rw (p.1, p.2) (rw ((sym c.read_wide_flag.ensures ∙ c.in_ok-is_virtual.was), (nodes_went c.args.check tree _ _ _ _ _ _ _ _ _ _ (rw c.in_ok-key.was at c.read_desc.ensures.0)).is, sym c.read_wide_flag-2.ensures ∙ c.in_err-has.was))
+    rw (p.1, p.2)
+    (c.desc.ensures.0.0, rw ((sym c.read_wide_flag.ensures ∙ c.in_ok-is_virtual.was), (mem_went c.args.check tree _ _ _ _ (rw c.in_ok-q.was at c.desc.ensures.0.1)).is, sym c.read_wide_flag-2.ensures ∙ c.in_err-has.was))
 
 pub returns : goal.returns
-returns c = sides_read c.args.check c.args.limit c.args.s.now c.args.at c.args.text.now c.args.t c.args.rows.now c.args.r c.args.nodes.now c.args.n (sym c.read_wide_flag.ensures ∙ c.in_ok-is_virtual.was) (rw c.in_ok-key.was at c.read_desc.ensures.0) (sym c.read_wide_flag-2.ensures ∙ c.in_ok-has.was) c.from-first.ensures c.from-second.ensures c.store_three.ensures c.read_value.ensures
+returns c =
+    let a = c.args in
+    let h = c.desc.ensures.0.0 in
+    let k = c.store_three.ensures.0 in
+    let l = c.read_value.ensures.0 in (
+      (l.0 ∙ k.0 ∙ h.0, l.1 ∙ k.1 ∙ h.1, l.2 ∙ k.2 ∙ h.2),
+      sides_read a.check a.limit a.s.now a.at (mem a.memory.now) _ _ _ _ (sym c.read_wide_flag.ensures ∙ c.in_ok-is_virtual.was) (rw c.in_ok-q.was at c.desc.ensures.0.1) (sym c.read_wide_flag-2.ensures ∙ c.in_ok-has.was) c.from-first.ensures c.from-second.ensures c.store_three.ensures.1 c.read_value.ensures.1,
+    )
