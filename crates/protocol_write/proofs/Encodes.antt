@@ -23,6 +23,7 @@ use Rattle.protocol_write.proofs.MessagePrints.{write_said}
 use Rattle.protocol_write.proofs.Printing.{Prints}
 use Rattle.protocol_write.proofs.Sends.{send_big, send_small, send_done}
 use Rattle.protocol_write.proofs.Verdicts.{fine_said}
+use Rattle.varint.proofs.Basics.{never}
 use Rattle.std.specs.Prelude.{Ok, Err, Result}
 
 -- what is said
@@ -33,7 +34,7 @@ record Whole {A : Type 0} (H : Held A) : Type 0 where
 whole : {A : Type 0} (H : Held A) → verdict H ≡ Ok tt → Whole H
 unfolding verdict
 whole (held a) h = record { value = a; is = refl }
-whole (lacks e) h = let z : ◌≡◌ {A = ℕ} 0 1 = cc in absurd (omega arith)
+whole (lacks e) h = never cc
 
 module _ (max limit : ℕ) (m : Message) (tx rs nd d : List ℕ) (v : Result (Unit {0}) Refusal) (tests : v ≡ fine limit m tx rs nd) where
   pub encode_refused : (e : Refusal) → v ≡ Err e → record { answer = Err e; out = d } ≡ encode_message max limit m tx rs nd d

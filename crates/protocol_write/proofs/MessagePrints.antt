@@ -3,7 +3,6 @@ use mathlib.Core.Bool.{Bool, true, false}
 use mathlib.Core.Path.{◌≡◌, refl, sym}
 use mathlib.Core.List.{List, [], ◌∷◌, ◌++◌}
 use Prim.Native.Nat.{ℕ, ◌+◌, ◌*◌, ◌≤◌}
-use native.Mathlib.Omega.{arith}
 use lib.Dec.{ltb}
 use lib.ListN.{length}
 use lib.Seq.{sets}
@@ -44,16 +43,17 @@ use Rattle.protocol.specs.declared.message.Span.{Span}
 use Rattle.protocol_write.specs.Inner.Writing.{put_two, put_counted, put_tagged, put_startup, put_control, put_finished, put_reply, put_page, put_digest, put_message}
 use Rattle.protocol_write.proofs.Printing.{took, held_same, Prints, prints_then, prints_number, prints_two, prints_byte, prints_flag, prints_fixed, fixed_same, prints_text}
 use Rattle.protocol_write.proofs.RowPrints.{claim_prints, step_prints, id_prints, pair_prints, type_prints, counted_prints}
+use Rattle.varint.proofs.Basics.{never}
 use Rattle.std.specs.Prelude.{Some, None, Option}
 
 -- what is held has passed the test before it
 past_lack : {A : Type 0} (t : Bool) (x : Refusal) (h : Held A) (a : A) → pick t (lacks x) h ≡ held a → (t ≡ false) × (h ≡ held a)
-past_lack true x h a e = let z : ◌≡◌ {A = ℕ} 0 1 = cc in absurd (omega arith)
+past_lack true x h a e = never cc
 past_lack false x h a e = (refl, e)
 
 past_good : {A : Type 0} (t : Bool) (x : Refusal) (h : Held A) (a : A) → pick t h (lacks x) ≡ held a → h ≡ held a
 past_good true x h a e = e
-past_good false x h a e = let z : ◌≡◌ {A = ℕ} 0 1 = cc in absurd (omega arith)
+past_good false x h a e = never cc
 
 -- a message by what it says
 said_prints : {A : Type 0} (to : A → Said) (H : Held A) (w : Pen → Pen) (x : Said) → ((a : A) → H ≡ held a → Prints w (print_said (to a)))

@@ -11,7 +11,7 @@ use Rattle.varint.specs.Got.{Got}
 use Rattle.varint.specs.Gathering.{Held, held, lacks, then_held}
 use Rattle.varint.specs.declared.error.Fault.TheVariants.{Layout}
 use Rattle.varint.specs.declared.error.Refusal.TheVariants.{BadMessage}
-use Rattle.varint.proofs.Basics.{pick_both, pick_cases}
+use Rattle.varint.proofs.Basics.{pick_both, pick_cases, never}
 use Rattle.desc.specs.Emitting.{verdict, names_from}
 use Rattle.desc.specs.Encoding.{held_in}
 use Rattle.desc.specs.Layout.{NameSpan, tag_at, count_at, end_at}
@@ -99,14 +99,14 @@ module _ (limit : ℕ) (rs nd : List ℕ) where
     where
       go : (H : Held ℕ) → Some m ≡ laid_as H → then_held H (λ k. types_laid limit rs nd (left - 1) (r + 6) k) ≡ types_laid limit rs nd (left - 1) (r + 6) m
       go (held k) e = let q : k ≡ m = cc in rw q
-      go (lacks x) e = let z : ◌≡◌ {A = ℕ} 0 1 = cc in absurd (omega arith)
+      go (lacks x) e = never cc
 
   pub type_wrong : (left r n : ℕ) → 0 < left → None ≡ laid_as (type_laid limit rs nd r n) → verdict (types_laid limit rs nd left r n) ≡ Err (BadMessage Layout)
   unfolding laid_as verdict
   type_wrong left r n p h = ap verdict (laid_turn left r n p) ∙ go (type_laid limit rs nd r n) (type_layout limit rs nd r n) h
     where
       go : (H : Held ℕ) → LayoutOnly H → None ≡ laid_as H → verdict (then_held H (λ k. types_laid limit rs nd (left - 1) (r + 6) k)) ≡ Err (BadMessage Layout)
-      go (held k) l e = let z : ◌≡◌ {A = ℕ} 0 1 = cc in absurd (omega arith)
+      go (held k) l e = never cc
       go (lacks x) l e = rw l
 
   pub laid_end : (left r n : ℕ) → left ≤ 0 → Ok tt ≡ verdict (types_laid limit rs nd left r n)

@@ -3,7 +3,6 @@ use mathlib.Core.Bool.{Bool, true, false}
 use mathlib.Core.Path.{◌≡◌, refl, ◌∙◌, ap}
 use mathlib.Core.List.{List, [], ◌∷◌, ◌++◌}
 use Prim.Native.Nat.{ℕ, zero, suc, ◌+◌}
-use native.Mathlib.Omega.{arith}
 use lib.ListN.{length}
 use Rattle.varint.specs.Choice.{pick}
 use Rattle.varint.specs.Fixed.{put_le}
@@ -11,7 +10,7 @@ use Rattle.varint.specs.Got.{Got}
 use Rattle.varint.specs.Formats.{Format, print_text, print_all}
 use Rattle.varint.specs.Gathering.{Held, held, lacks, then_held, name_held}
 use Rattle.varint.specs.Leb128.{put_by, put_u64}
-use Rattle.varint.proofs.Basics.{clash}
+use Rattle.varint.proofs.Basics.{clash, never}
 use Rattle.desc.specs.Emitting.{Pen, put_bytes, put_number}
 use Rattle.desc.specs.Encoding.{held_in}
 use Rattle.desc.specs.Layout.{NameSpan}
@@ -33,7 +32,7 @@ pub record Took {A B : Type 0} (h : Held A) (k : A → Held B) (b : B) : Type 0 
 
 pub took : {A B : Type 0} (h : Held A) (k : A → Held B) (b : B) → then_held h k ≡ held b → Took h k b
 took (held a) k b e = record { value = a; is = refl; rest = e }
-took (lacks x) k b e = let z : ◌≡◌ {A = ℕ} 0 1 = cc in absurd (omega arith)
+took (lacks x) k b e = never cc
 
 pub held_same : {A : Type 0} {a b : A} → held a ≡ held b → a ≡ b
 held_same e = cc
@@ -96,7 +95,7 @@ prints_text tx start len x e =
 pub prints_tree : (tx : List ℕ) (D : Got (Tree NameSpan)) (u : Tree (List ℕ)) → held_in D tx ≡ held u → Prints (put_at tx D) (print u)
 unfolding held_in put_at
 prints_tree tx (Ok (t, e)) u h = record { stores = λ s r. put_print tx t u s h r }
-prints_tree tx (Err x) u h = let z : ◌≡◌ {A = ℕ} 0 1 = cc in absurd (omega arith)
+prints_tree tx (Err x) u h = never cc
 
 -- Rows
 

@@ -1,6 +1,6 @@
 -- Loops over rows: a row that is left is inside, and one turn of each loop.
 use mathlib.Core.Bool.{Bool, true, false, ◌&&◌}
-use mathlib.Core.Path.{◌≡◌, refl, ◌∙◌}
+use mathlib.Core.Path.{◌≡◌, refl, sym, ◌∙◌}
 use mathlib.Core.List.{List}
 use Prim.Native.Nat.{ℕ, zero, suc, ◌+◌, ◌-◌, ◌*◌, ◌/◌, ◌≤◌, ◌<◌}
 use native.Mathlib.Nat.{suc-mul, div-lt_iff_lt-mul}
@@ -14,7 +14,7 @@ use Rattle.protocol.specs.Rows.{width_of}
 use Rattle.protocol.specs.RowsHeld.{all_good}
 use Rattle.protocol.specs.declared.message.RowKind.{RowKind}
 use Rattle.protocol.specs.declared.message.RowKind.TheVariants.{Claim, Id, Predicate, Step, Pair}
-use Rattle.protocol_write.specs.Inner.Checking.{row_names, rows_names}
+use Rattle.protocol_write.specs.Inner.Checking.{row_good, numbers_fine, row_names, rows_names}
 use Rattle.protocol_write.specs.Inner.Writing.{put_row, put_rows}
 use Rattle.std.specs.Prelude.{Result, Ok, Err}
 
@@ -97,6 +97,20 @@ module _ (good : ℕ → Bool) where
   unfolding all_good
   good_end zero r v h = refl
   good_end (suc left) r v h = absurd (omega arith)
+
+  all_true : ((r : ℕ) → good r ≡ true) → (n r v : ℕ) → all_good good v n r ≡ true
+  unfolding all_good
+  all_true h zero r v = refl
+  all_true h (suc n) r v = rw (h r) (all_true h n (r + v) v)
+
+-- the numbers of all rows, one row after the other
+pub numbers_all : (kind : RowKind) (rs : List ℕ) (count : ℕ) → numbers_fine kind rs count ≡ all_good (row_good kind rs) (width_of kind) count 0
+unfolding numbers_fine row_good
+numbers_all Claim rs count = sym (all_true (row_good Claim rs) (λ r. refl) count 0 (width_of Claim))
+numbers_all Id rs count = sym (all_true (row_good Id rs) (λ r. refl) count 0 (width_of Id))
+numbers_all Predicate rs count = refl
+numbers_all Step rs count = refl
+numbers_all Pair rs count = sym (all_true (row_good Pair rs) (λ r. refl) count 0 (width_of Pair))
 
 -- ids and pairs have no text
 pub no_names : (kind : RowKind) (limit : ℕ) (tx rs nd : List ℕ) → ((r : ℕ) → row_names kind limit tx rs nd r ≡ Ok tt)

@@ -9,7 +9,7 @@ use borrow.Author.Tests.{eqb-true, ne_eqb}
 use Rattle.varint.specs.Choice.{pick}
 use Rattle.varint.specs.Got.{Got}
 use Rattle.varint.specs.Gathering.{Held, held, lacks}
-use Rattle.varint.proofs.Basics.{test}
+use Rattle.varint.proofs.Basics.{test, never}
 use Rattle.desc.specs.Emitting.{verdict}
 use Rattle.desc.specs.Layout.{NameSpan, end_at}
 use Rattle.desc.specs.Table.{cell, table}
@@ -42,7 +42,7 @@ module _ (limit : ℕ) (rs nd : List ℕ) where
     where
       go : (D : Got (Tree NameSpan)) → table limit nd n 0 ≡ D → node_after D ≡ held m → Ends nd n D → LaidAt limit nd n × (cell nd n end_at ≡ m)
       go (Ok (t, e)) i k l = let p : e ≡ m = cc in (record { tree = t; next = e; is = i }, l ∙ p)
-      go (Err x) i k l = let z : ◌≡◌ {A = ℕ} 0 1 = cc in absurd (omega arith)
+      go (Err x) i k l = never cc
 
   -- a value whose root is node k, where the key at node n ends
   value_held : (has n k m : ℕ) → cell nd n end_at ≡ k → pick (yes has) (node_after (table limit nd k 0)) (held k) ≡ held m → ValueLaid limit nd has n
@@ -59,7 +59,7 @@ module _ (limit : ℕ) (rs nd : List ℕ) where
       let t = took (node_after (table limit nd n 0)) _ m (rw e at h) in
       let k = after_held n t.value t.is in
       rw (eqb-true (get_or rs (r + 5) 0) n e) (k.0, value_held (get_or rs (r + 4) 0) n t.value m k.1 t.rest))
-      (λ e. let z : ◌≡◌ {A = ℕ} 0 1 = cc in absurd (omega arith))
+      (λ e. never cc)
 
   types_held : (left r n m : ℕ) → types_laid limit rs nd left r n ≡ held m → RowsLaid Predicate left r
   unfolding types_laid
@@ -82,6 +82,6 @@ module _ (limit : ℕ) (rs nd : List ℕ) where
     where
       go : (H : Held ℕ) → types_laid limit rs nd count 0 0 ≡ H → verdict H ≡ Ok tt → RowsLaid Predicate count 0
       go (held m) i g = types_held count 0 0 m i
-      go (lacks x) i g = let z : ◌≡◌ {A = ℕ} 0 1 = cc in absurd (omega arith)
+      go (lacks x) i g = never cc
   rows_laid Step count h = no_nodes Step (λ r. tt) count 0
   rows_laid Pair count h = no_nodes Pair (λ r. tt) count 0

@@ -3,7 +3,6 @@ use mathlib.Core.Bool.{Bool, true, false}
 use mathlib.Core.Path.{◌≡◌, refl, sym}
 use mathlib.Core.List.{List}
 use Prim.Native.Nat.{ℕ, ◌+◌, ◌≤◌}
-use native.Mathlib.Omega.{arith}
 use borrow.Author.Tests.{ltb-false, le-ltb}
 use lib.Dec.{ltb}
 use lib.ListN.{length}
@@ -17,6 +16,7 @@ use Rattle.varint.specs.declared.error.Refusal.TheVariants.{BadMessage, BadStrin
 use Rattle.varint.proofs.Utf8Laws.{utf8_at_in}
 use Rattle.desc.specs.Emitting.{verdict}
 use Rattle.protocol.specs.Page.{raw_held}
+use Rattle.varint.proofs.Basics.{never}
 use Rattle.std.specs.Prelude.{Ok, Err}
 
 module _ (tx : List ℕ) (start len : ℕ) where
@@ -27,14 +27,14 @@ module _ (tx : List ℕ) (start len : ℕ) where
       go : (b : Bool) → verdict {A = List ℕ} (pick b (lacks (BadMessage Texts)) (held (part tx start len))) ≡ Err e
           → Err e ≡ verdict {A = List ℕ} (pick b (lacks (BadMessage Texts)) (pick (utf8 (part tx start len)) (held (part tx start len)) (lacks BadString)))
       go true h = sym h
-      go false h = let z : ◌≡◌ {A = ℕ} 0 1 = cc in absurd (omega arith)
+      go false h = never cc
 
   room : verdict (raw_held tx start len) ≡ Ok tt → start + len ≤ length tx
   unfolding verdict raw_held
   room h = go (ltb (length tx) (start + len)) refl h
     where
       go : (b : Bool) → ltb (length tx) (start + len) ≡ b → verdict {A = List ℕ} (pick b (lacks (BadMessage Texts)) (held (part tx start len))) ≡ Ok tt → start + len ≤ length tx
-      go true i h = let z : ◌≡◌ {A = ℕ} 0 1 = cc in absurd (omega arith)
+      go true i h = never cc
       go false i h = ltb-false (length tx) (start + len) i
 
   module _ (there : verdict (raw_held tx start len) ≡ Ok tt) {t : Bool} (tested : t ≡ utf8_at tx start len) where

@@ -3,6 +3,8 @@
 
 pub mod checks;
 mod columns;
+mod lent;
+mod rows;
 mod write;
 
 ghost use Rattle.std.specs.Prelude.{◌≡◌, ◌≤◌};
@@ -12,6 +14,7 @@ ghost use Rattle.protocol_write.specs.Inner.Writing.{size_of};
 
 use checks::check_message;
 use desc::{MAX_DEPTH, MAX_PAYLOAD};
+use lent::Lent;
 use protocol::message::{ControlOp, ControlReply, ErrorCode, Message, Mode, Span};
 use varint::Written;
 use varint::error::{Buffer, Refusal};
@@ -20,28 +23,20 @@ use write::write_message;
 
 // How many bytes the message has; 2^64−1 stands for more as well.
 #[tactic(auto, unfolding(crate::specs::Inner::Writing::size_of))]
-fn size_message(message: Message, limit: u64, text: &[u8], rows: &[u64], nodes: &[u64]) -> usize
-    ensures { result ≡ size_of limit message text.now rows.now nodes.now }
+fn size_message(message: &Message, lent: &Lent<'_>) -> usize
+    ensures { result ≡ size_of lent.now.limit message.now lent.now.text.now lent.now.rows.now lent.now.nodes.now }
 {
     let mut scratch = [0u8; 1];
-    write_message(message, limit, text, rows, nodes, &mut scratch)
+    write_message(message, lent, &mut scratch)
 }
 
 // The longest payload and the depth of descriptors are parameters. A size of 2^64−1 may stand for a greater one, and is over any `max` there is.
-fn encode_within(
-    message: Message,
-    max: u64,
-    limit: u64,
-    text: &[u8],
-    rows: &[u64],
-    nodes: &[u64],
-    out: &mut [u8],
-) -> Written
+fn encode_within(message: &Message, max: u64, lent: &Lent<'_>, out: &mut [u8]) -> Written
     requires { max ≤ 4294967296 }
-    ensures { record { answer = result; out = out.new } ≡ encode_message max limit message text.now rows.now nodes.now out.old }
+    ensures { record { answer = result; out = out.new } ≡ encode_message max lent.now.limit message.now lent.now.text.now lent.now.rows.now lent.now.nodes.now out.old }
 {
-    check_message(message, limit, text, rows, nodes)?;
-    let size = size_message(message, limit, text, rows, nodes);
+    check_message(message, lent)?;
+    let size = size_message(message, lent);
     if max < size as u64 {
         return Err(Refusal::BlockTooLarge {
             declared: size as u64,
@@ -51,7 +46,7 @@ fn encode_within(
     if out.len() < size {
         return Err(Refusal::too_small(Buffer::Out, size));
     }
-    write_message(message, limit, text, rows, nodes, out);
+    write_message(message, lent, out);
     fill_from(out, size, 0);
     Ok(size)
 }
@@ -60,7 +55,13 @@ fn encode_within(
 pub fn encode(message: Message, text: &[u8], rows: &[u64], nodes: &[u64], out: &mut [u8]) -> Written
     ensures { record { answer = result; out = out.new } ≡ encode_message 67108864 64 message text.now rows.now nodes.now out.old }
 {
-    encode_within(message, MAX_PAYLOAD, MAX_DEPTH, text, rows, nodes, out)
+    let lent = &Lent {
+        limit: MAX_DEPTH,
+        text,
+        rows,
+        nodes,
+    };
+    encode_within(&message, MAX_PAYLOAD, lent, out)
 }
 
 // The same for each message by its fields.

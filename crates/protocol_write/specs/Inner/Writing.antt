@@ -19,6 +19,15 @@ use Rattle.protocol.specs.declared.message.Message.TheVariants as Msg
 use Rattle.protocol.specs.declared.message.RowKind.{RowKind}
 use Rattle.protocol.specs.declared.message.RowKind.TheVariants.{Claim, Id, Predicate, Step, Pair}
 use Rattle.protocol.specs.declared.message.Span.{Span}
+use Rattle.protocol_write.specs.declared.write.Writer.{Writer}
+
+-- where a writer stands
+abbrev pub pen : Writer → Pen
+pen w = record { out = w.out.now; place = w.at }
+
+-- a writer has written so, into the buffer that it had
+abbrev pub Writes : (Pen → Pen) → Writer → Writer → Type 0
+Writes put before after = (after.out.ghost_name ≡ before.out.ghost_name) × (pen after ≡ put (pen before))
 
 -- one byte
 unfoldable pub put_byte : ℕ → Pen → Pen

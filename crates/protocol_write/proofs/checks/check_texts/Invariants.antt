@@ -7,4 +7,4 @@ use Rattle.protocol_write.proofs.RowsLaid.{RowsLaid}
 use Rattle.protocol_write.proofs.checks.check_texts.Given as goal
 
 abbrev pub invariant-loop : goal.invariant-loop
-invariant-loop l = (l.r + (l.count - l.counter) * width_of l.kind ≤ length l.rows) × (rows_names l.kind l.limit l.text l.rows l.nodes l.count 0 ≡ rows_names l.kind l.limit l.text l.rows l.nodes (l.count - l.counter) l.r) × RowsLaid l.limit l.rows l.nodes l.kind (l.count - l.counter) l.r
+invariant-loop g l = (l.r + (l.count - l.counter) * width_of g.R.Row.KIND ≤ length l.lent.rows.now) × (rows_names g.R.Row.KIND l.lent.limit l.lent.text.now l.lent.rows.now l.lent.nodes.now l.count 0 ≡ rows_names g.R.Row.KIND l.lent.limit l.lent.text.now l.lent.rows.now l.lent.nodes.now (l.count - l.counter) l.r) × RowsLaid l.lent.limit l.lent.rows.now l.lent.nodes.now g.R.Row.KIND (l.count - l.counter) l.r

@@ -1,18 +1,12 @@
-use mathlib.Core.Path.{◌≡◌, refl, sym, ◌∙◌, ap}
+use mathlib.Core.Path.{◌≡◌, sym, ◌∙◌, ap}
 use Prim.Native.Nat.{◌+◌, ◌-◌}
 use Rattle.desc.specs.Emitting.{verdict}
 use native.Mathlib.Omega.{arith}
 use Rattle.protocol_write.proofs.NodeChecks.{type_next, type_wrong, laid_end}
 use Rattle.protocol_write.proofs.checks.types_laid.Goals as goal
 
-pub loop-init : goal.loop-init
-loop-init c = let e : c.args.count - 0 ≡ c.args.count = omega arith in rw e (let p = c.requires in omega arith, refl)
-
 pub returns-in_default : goal.returns-in_default
 returns-in_default c = sym (ap verdict c.loop.invariant.1 ∙ type_wrong _ _ _ _ _ _ (omega arith) (sym c.in_default.is ∙ c.type_laid.ensures))
-
-pub overflow_add-r : goal.overflow_add-r
-overflow_add-r c = let p = c.loop.invariant.0 in omega arith
 
 pub loop-preserved : goal.loop-preserved
 loop-preserved c = (
