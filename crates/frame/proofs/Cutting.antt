@@ -1,4 +1,4 @@
--- Demand 3: however a run of bytes is cut into pieces, it comes to what the reading of the whole run says.
+-- However a run of bytes is cut into pieces, it comes to what the reading of the whole run says.
 use mathlib.Core.Path.{◌≡◌, sym, ap, subst, ◌∙◌}
 use mathlib.Core.Logic.{◌≢◌}
 use mathlib.Core.List.{List, [], ◌∷◌, ◌++◌, append_assoc, append-nil}
@@ -117,7 +117,7 @@ module _ (l : Limits) (c : Setup) where
   pub cutting : (ps : List (List ℕ)) (b : Lent) → Cuts ps (driving l (fresh c b) ps) (reading l c (joined ps) b)
   cutting ps b = record { run = one_run ps b; again = rw one_run at (driving_later l c ps b).again }
 
--- demand 3, as specs/Runs states it
+-- as specs/Runs states it
 pub every_cut : EveryCut
 unfolding opens fresh
 every_cut before table hold lent ps h = rw (eq-eqb _ _ h) (cutting editor (record { table = table; room = length hold }) ps lent)

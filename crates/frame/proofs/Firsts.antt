@@ -9,7 +9,7 @@ use lib.ListN.{length, take, length-append}
 use lib.Seq.{take-append-le}
 use Rattle.varint.specs.Refusals.{code_of}
 use Rattle.varint.specs.declared.error.Refusal.{Refusal}
-use Rattle.varint.proofs.Basics.{pick_cases}
+use Rattle.varint.proofs.Basics.{pick_cases, never}
 use Rattle.frame.specs.Frames.{length_of}
 use Rattle.frame.specs.Worlds.{Limits, Setup}
 use Rattle.frame.specs.Reading.{Verdict, refuse, gather, judge, First, short, bad, whole, first_of, first}
@@ -72,7 +72,7 @@ module _ (l : Limits) (c : Setup) where
   -- and fewer than a header that stops the run
   pub early : (h p : List ℕ) (e : Refusal) → View l c h short → judge l c.room (take 9 (h ++ p)) ≡ refuse e → length h < 9
   early h p e (v_head m) d = m
-  early h p e (v_load m g f) d = let q : ◌≡◌ {A = ℕ} 0 1 = cc (header h p m) in omega arith
+  early h p e (v_load m g f) d = never (cc (header h p m))
 
   -- what stands first stays first, whatever follows
   pub bad_stays : (s y : List ℕ) (e : Refusal) → View l c s (bad e) → View l c (s ++ y) (bad e)

@@ -1,18 +1,19 @@
 -- Laws of frames: what a decoded header and a decoded frame are, decoding what was encoded, and encoding what was decoded.
 use mathlib.Core.Path.{◌≡◌, refl, sym, ◌∙◌, ap}
-use mathlib.Core.List.{List, ◌∷◌, ◌++◌}
+use mathlib.Core.List.{List, [], ◌∷◌, ◌++◌}
 use Prim.Native.Nat.{ℕ, ◌+◌, ◌-◌, ◌≤◌, ◌<◌}
 use native.Mathlib.Omega.{arith}
 use lib.Dec.{ltb}
-use lib.ListN.{length, take, replicate, length-append}
-use lib.Seq.{take-append_seam}
+use lib.ListN.{length, take, set, get_or, replicate, length-append}
+use lib.Seq.{sets, take-append_seam}
 use borrow.Author.Tests.{le-ltb, ltb-false}
+use Rattle.std.specs.Int.{w32, from_le_bytes}
 use Rattle.varint.specs.Fixed.{le, put_le}
 use Rattle.varint.specs.RoundTrips.{Bytes}
-use Rattle.varint.specs.Stores.{part}
-use Rattle.varint.proofs.Basics.{pick_cases}
+use Rattle.varint.specs.Stores.{part, clear_from, filled}
+use Rattle.varint.proofs.Basics.{never, pick_cases}
 use Rattle.varint.proofs.FixedLaws.{length_put_le, le_put_le, put_le_le}
-use Rattle.varint.proofs.StoreLaws.{length_part, part_add, part_cons, filled_fits}
+use Rattle.varint.proofs.StoreLaws.{length_part, part_add, part_all, part_cons, sets_append, filled_fits, filled_steps}
 use Rattle.varint.proofs.VarintLaws.{part_bytes}
 use Rattle.frame.specs.declared.Frame.{Frame}
 use Rattle.frame.specs.declared.FrameHeader.{FrameHeader}
@@ -21,12 +22,57 @@ use Rattle.frame.specs.Frames.{kind_of, stream_of, length_of, header_of, frame_b
 use Rattle.std.specs.Prelude.{Result, Ok, Err}
 use Rattle.varint.specs.declared.error.Refusal.{Refusal}
 
-pub never : {X : Type 0} → ◌≡◌ {A = ℕ} 0 1 → X
-never e = absurd (omega arith)
-
 pub length_frame_bytes : (kind stream : ℕ) (payload : List ℕ) → length (frame_bytes kind stream payload) ≡ 9 + length payload
 unfolding frame_bytes
 length_frame_bytes kind stream payload = simp (length-append, length_put_le) (omega arith)
+
+-- ---- what is encoded
+
+-- a header and a payload, stored one after the other
+stored : (kind stream : ℕ) (payload d : List ℕ)
+    → sets (sets (sets (set d 0 kind) 1 (put_le 4 stream)) 5 (put_le 4 (length payload))) 9 (part payload 0 (length payload)) ≡ sets d 0 (frame_bytes kind stream payload)
+unfolding frame_bytes
+stored kind stream payload d =
+    let x : List ℕ = put_le 4 stream in
+    let y : List ℕ = put_le 4 (length payload) in
+    let l : length (x ++ y) ≡ 8 = simp (length-append, length_put_le) in
+    rw (part_all payload, sets_append (x ++ y) payload (set d 0 kind) 1, l, sets_append x y (set d 0 kind) 1, length_put_le 4 stream)
+
+-- and zeros after them
+pub frame_sent : (kind stream : ℕ) (payload d : List ℕ) → 9 + length payload ≤ length d
+    → clear_from (sets (sets (sets (set d 0 kind) 1 (put_le 4 stream)) 5 (put_le 4 (length payload))) 9 (part payload 0 (length payload))) (9 + length payload)
+    ≡ filled d (frame_bytes kind stream payload)
+frame_sent kind stream payload d h =
+    let n = length_frame_bytes kind stream payload in
+    rw (stored kind stream payload d, ← n) (filled_steps d (frame_bytes kind stream payload) (rw n h))
+
+-- ---- the fields of a header
+
+part_none : (s : List ℕ) (from : ℕ) → part s from 0 ≡ []
+unfolding part
+part_none s from = refl
+
+-- a field's four bytes, one by one
+four_bytes : (s : List ℕ) (at : ℕ) → at + 4 ≤ length s
+    → part s at 4 ≡ get_or s at 0 ∷ get_or s (at + 1) 0 ∷ get_or s (at + 2) 0 ∷ get_or s (at + 3) 0 ∷ []
+four_bytes s at h =
+    let two : at + 1 + 1 ≡ at + 2 = omega arith in
+    let three : at + 2 + 1 ≡ at + 3 = omega arith in
+    rw (
+      part_cons s at 4 (omega arith) (omega arith),
+      part_cons s (at + 1) 3 (omega arith) (omega arith),
+      two,
+      part_cons s (at + 2) 2 (omega arith) (omega arith),
+      three,
+      part_cons s (at + 3) 1 (omega arith) (omega arith),
+      part_none s (at + 3 + 1),
+    )
+
+-- and so the number that the library reads of them
+pub field_is : (s : List ℕ) (at : ℕ) → at + 4 ≤ length s
+    → le (part s at 4) ≡ from_le_bytes w32 (get_or s at 0 ∷ get_or s (at + 1) 0 ∷ get_or s (at + 2) 0 ∷ get_or s (at + 3) 0 ∷ [])
+unfolding le
+field_is s at h = rw (four_bytes s at h) (omega arith)
 
 -- ---- what was decoded
 

@@ -6,6 +6,7 @@ pub mod HeldLaws
 pub mod Laters
 pub mod ListLaws
 pub mod OfferDepends
+pub mod OfferKeeps
 pub mod OfferSteps
 pub mod OfferUses
 pub mod ReadSteps
@@ -13,4 +14,5 @@ pub mod ReadingLaws
 pub mod ReceiverFacts
 pub mod ReceiverSteps
 pub mod Rests
+pub mod SlotLaws
 pub mod Stops

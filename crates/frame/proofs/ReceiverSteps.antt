@@ -2,26 +2,23 @@
 use mathlib.Core.Path.{◌≡◌, refl, sym, ap, ◌∙◌}
 use mathlib.Core.Bool.{Bool, true, false, true≢false}
 use mathlib.Core.List.{List, [], ◌++◌, append-nil}
-use Prim.Native.Nat.{ℕ, zero, suc, ◌+◌, ◌-◌, ◌≤◌, ◌<◌, min}
-use native.Mathlib.Nat.{sub-zero, zero-sub, suc-sub-suc}
+use Prim.Native.Nat.{ℕ, ◌+◌, ◌-◌, ◌≤◌, ◌<◌, min}
+use native.Mathlib.Nat.{sub-zero}
 use native.Mathlib.Omega.{arith}
 use borrow.Author.Tests.{lt-ltb, le-ltb, ltb-true, ltb-false, leb-false, eq-eqb}
 use lib.Dec.{ltb, leb}
-use lib.ListN.{length, take, drop, get_or, replicate, length-append, length-take, length-drop, length-replicate, drop_of_length-le}
+use lib.ListN.{length, take, drop, replicate, length-append, length-take, length-drop, length-replicate, drop_of_length-le}
 use lib.Seq.{sets, sets-eq, take_at, drop-append-add, take_all, length-take-le, length-sets}
+use Rattle.std.proofs.lemmas.List.{drop-replicate}
 use Rattle.varint.specs.Stores.{part, fill_from, clear_from}
-use Rattle.varint.specs.declared.error.Refusal.{Refusal}
-use Rattle.protocol.specs.Decoding.{Left, decode_message}
 use Rattle.frame.specs.declared.FrameHeader.{FrameHeader}
-use Rattle.frame.specs.declared.receiver.Outcome.TheVariants.{More, Handed}
+use Rattle.frame.specs.declared.receiver.Outcome.TheVariants.{More}
 use Rattle.frame.specs.declared.receiver.Progress.{Progress}
 use Rattle.frame.specs.declared.receiver.Receiver.{Receiver}
 use Rattle.frame.specs.Frames.{header_of}
-use Rattle.frame.specs.Worlds.{World, editor, progress_of, pad}
-use Rattle.frame.specs.Reading.{Verdict, gather, judge, decoded_kind}
-use Rattle.frame.specs.Offering.{stop_of, setup_of, header_held, overfull, impossible, handed, loads, settles, takes, offering, world_of, offer_at}
-use Rattle.std.specs.Prelude.{Result}
-use Rattle.protocol.specs.declared.message.Message.{Message}
+use Rattle.frame.specs.Worlds.{World, editor, pad}
+use Rattle.frame.specs.Reading.{Verdict, refuse, gather, judge, decoded_kind}
+use Rattle.frame.specs.Offering.{setup_of, advanced, header_held, overfull, impossible, handed, loads, settles, takes, offering, world_of, offer_of}
 
 -- ---- impossible counts
 
@@ -58,11 +55,6 @@ cleared d = rw sub-zero
 
 -- ---- the header that is held, and the bytes that it lacks
 
-drop_zeros : (k n : ℕ) → drop {A = ℕ} k (replicate n 0) ≡ replicate (n - k) 0
-drop_zeros zero n = rw sub-zero
-drop_zeros (suc k) zero = rw zero-sub
-drop_zeros (suc k) (suc n) = rw suc-sub-suc (drop_zeros k n)
-
 pub header_filled : (held z p : List ℕ) (at : ℕ) → length held ≡ 9 → at ≤ 9 → z ≡ clear_from held at
     → sets z at (part p 0 (9 - at)) ≡ pad 9 (take at held ++ take (9 - at) p)
 unfolding fill_from part pad
@@ -75,7 +67,7 @@ header_filled held z p at n l c =
     let d : drop (at + length (take (9 - at) p)) (take at held ++ replicate (length held - at) 0) ≡ replicate (9 - (at + length (take (9 - at) p))) 0 =
     ap (λ (i : ℕ). drop (i + length (take (9 - at) p)) (take at held ++ replicate (length held - at) 0)) (sym a)
     ∙ drop-append-add (take at held) (replicate (length held - at) 0) (length (take (9 - at) p))
-    ∙ drop_zeros (length (take (9 - at) p)) (length held - at)
+    ∙ drop-replicate (length (take (9 - at) p)) (length held - at) 0
     ∙ ap (λ (i : ℕ). replicate i 0) e in
     rw c (sets-eq (take (9 - at) p) (take at held ++ replicate (length held - at) 0) at room ∙ rw (t, d, length-append, a))
 
@@ -87,57 +79,47 @@ header_kept held p at n e =
     let z : 9 - length held ≡ 0 = omega arith in
     rw (k, t, append-nil, z, append-nil)
 
--- ---- a frame is handed out
-
-pub handed_out : (r : Receiver) (p' : Progress) (h : FrameHeader) (u entry : ℕ) (a : Result Message Refusal) (hold hold' text rows nodes text' rows' nodes' : List ℕ)
-    → entry ≡ get_or r.table h.kind 0
-    → ◌≡◌ {A = Left} (record { answer = a; text = text'; rows = rows'; nodes = nodes' }) (decode_message 67108864 64 entry (take h.length hold) text rows nodes)
-    → hold' ≡ clear_from hold 0 → p' ≡ progress_of r.progress.hold_len (replicate 9 0) 0 0 (stop_of r)
-    → offer_at r.table (record { progress = p'; used = u; outcome = Handed h a }) hold' text' rows' nodes'
-    ≡ handed (world_of r hold text rows nodes) h u (decoded_kind editor (setup_of r) h.kind (take h.length hold) (record { text = text; rows = rows; nodes = nodes }))
-unfolding handed decoded_kind
-handed_out r p' h u entry a hold hold' text rows nodes text' rows' nodes' ee ed eh er =
-    rw (← ee, ← ed, eh, cleared hold, er)
-
 -- ---- the payload is gathered
 
-module _ (r : Receiver) (bytes : List ℕ) (u n : ℕ) (piece hold hold' text rows nodes : List ℕ) (have : r.progress.payload_len ≤ n) (fits : n ≤ length hold)
-    (inside : u ≤ length piece) (stored : hold' ≡ sets hold r.progress.payload_len (part piece u (n - r.progress.payload_len))) where
+module _ (r : Receiver) (u n : ℕ) (q hold text rows nodes : List ℕ) (have : r.progress.payload_len ≤ n) (fits : n ≤ length hold) where
+  -- the hold with the bytes that were there
+  abbrev pub stored : List ℕ
+  stored = sets hold r.progress.payload_len (part q 0 (n - r.progress.payload_len))
+
   abbrev payload : List ℕ
-  payload = take r.progress.payload_len hold ++ take (n - r.progress.payload_len) (drop u piece)
+  payload = take r.progress.payload_len hold ++ take (n - r.progress.payload_len) q
 
-  payload_length : length payload ≡ r.progress.payload_len + min (n - r.progress.payload_len) (length piece - u)
-  payload_length = rw (length-append, length-take, length-take, length-drop) (omega arith)
+  payload_length : length payload ≡ r.progress.payload_len + min (n - r.progress.payload_len) (length q)
+  payload_length = rw (length-append, length-take, length-take) (omega arith)
 
-  hold_is : hold' ≡ payload ++ drop (length payload) hold
+  hold_is : stored ≡ payload ++ drop (length payload) hold
   unfolding part
   hold_is =
       let a : length (take r.progress.payload_len hold) ≡ r.progress.payload_len = length-take-le r.progress.payload_len hold (omega arith) in
-      let m : r.progress.payload_len + length (take (n - r.progress.payload_len) (drop u piece)) ≤ length hold = rw length-take (omega arith) in
-      stored ∙ sets-eq (take (n - r.progress.payload_len) (drop u piece)) hold r.progress.payload_len m ∙ rw (length-append, a)
+      let m : r.progress.payload_len + length (take (n - r.progress.payload_len) q) ≤ length hold = rw length-take (omega arith) in
+      sets-eq (take (n - r.progress.payload_len) q) hold r.progress.payload_len m ∙ rw (length-append, a)
 
-  pub loaded_short : (p' : Progress) → length piece - u < n - r.progress.payload_len → p' ≡ progress_of r.progress.hold_len bytes 9 (r.progress.payload_len + (length piece - u)) (stop_of r)
-      → offer_at r.table (record { progress = p'; used = length piece; outcome = More }) hold' text rows nodes
-      ≡ loads editor (world_of r hold text rows nodes) bytes u (drop u piece) n
+  pub loaded_short : length q < n - r.progress.payload_len
+      → loads editor (world_of r hold text rows nodes) r.progress.header u q n
+      ≡ offer_of (record { used = u + length q; outcome = More }) (advanced r r.progress.header 9 (r.progress.payload_len + length q)) stored text rows nodes
   unfolding loads
-  loaded_short p' l e =
-      let k : length payload ≡ r.progress.payload_len + (length piece - u) = omega (arith, payload_length) in
+  loaded_short l =
+      let k : length payload ≡ r.progress.payload_len + length q = omega (arith, payload_length) in
       let m : length payload < n = omega arith in
-      let v : u + length (drop u piece) ≡ length piece = rw length-drop (omega arith) in
-      rw (lt-ltb _ _ m, ← hold_is, k, v, e)
+      rw (lt-ltb _ _ m, ← hold_is, k)
 
-  loaded_take : n - r.progress.payload_len ≤ length piece - u → take n hold' ≡ payload
+  loaded_take : n - r.progress.payload_len ≤ length q → take n stored ≡ payload
   loaded_take l =
       let k : length payload ≡ n = omega (arith, payload_length) in
       rw hold_is (take_at payload (drop (length payload) hold) n k)
 
-  pub loaded_whole : (h : FrameHeader) → h ≡ header_of bytes → h.length ≡ n → n - r.progress.payload_len ≤ length piece - u
-      → handed (world_of r hold' text rows nodes) h (u + (n - r.progress.payload_len)) (decoded_kind editor (setup_of r) h.kind (take n hold') (record { text = text; rows = rows; nodes = nodes }))
-      ≡ loads editor (world_of r hold text rows nodes) bytes u (drop u piece) n
+  pub loaded_whole : (h : FrameHeader) → h ≡ header_of r.progress.header → h.length ≡ n → n - r.progress.payload_len ≤ length q
+      → handed (world_of r stored text rows nodes) h (u + (n - r.progress.payload_len)) (decoded_kind editor (setup_of r) h.kind (take n stored) (record { text = text; rows = rows; nodes = nodes }))
+      ≡ loads editor (world_of r hold text rows nodes) r.progress.header u q n
   unfolding loads handed
   loaded_whole h e f l =
       let k : n ≤ length payload = omega (arith, payload_length) in
-      let z : length hold' ≡ length hold = rw stored (length-sets hold r.progress.payload_len (part piece u (n - r.progress.payload_len))) in
+      let z : length stored ≡ length hold = length-sets hold r.progress.payload_len (part q 0 (n - r.progress.payload_len)) in
       rw (le-ltb _ _ k, loaded_take l, z, e)
 
 -- ---- an offer
@@ -146,25 +128,42 @@ module _ (r : Receiver) (piece hold text rows nodes : List ℕ) where
   abbrev here : World
   here = world_of r hold text rows nodes
 
+  abbrev bytes : List ℕ
+  bytes = header_held r.progress ++ take (9 - r.progress.header_len) piece
+
+  -- the receiver with the header filled
+  abbrev pub filled : Receiver
+  filled = record r { progress = record r.progress { header = pad 9 bytes } }
+
+  -- a header that is held already makes no difference
+  settles_filled : (v : Verdict) (hd : List ℕ) (u : ℕ) (q : List ℕ) → settles editor v (world_of filled hold text rows nodes) hd u q ≡ settles editor v here hd u q
+  unfolding settles loads handed
+  settles_filled (refuse e) hd u q = refl
+  settles_filled (gather n) hd u q = refl
+
   module _ (same : length hold ≡ r.progress.hold_len) (runs : r.progress.stop ≡ 0) (possible : impossible editor r.progress ≡ false) (nine : length r.progress.header ≡ 9) where
     goes_on : offering editor here piece ≡ takes editor here piece
     unfolding offering
     goes_on = rw (eq-eqb _ _ same, eq-eqb _ _ runs, possible)
 
-    abbrev bytes : List ℕ
-    bytes = header_held r.progress ++ take (9 - r.progress.header_len) piece
-
     bytes_length : length bytes ≡ r.progress.header_len + min (9 - r.progress.header_len) (length piece)
     bytes_length = let l : r.progress.header_len ≤ 9 = header_fits r.progress nine possible in rw (length-append, length-take, length-take) (omega arith)
 
-    pub header_short : (p' : Progress) (header : List ℕ) → length piece < 9 - r.progress.header_len → header ≡ pad 9 bytes
-        → p' ≡ progress_of r.progress.hold_len header (r.progress.header_len + length piece) 0 (stop_of r)
-        → offer_at r.table (record { progress = p'; used = length piece; outcome = More }) hold text rows nodes ≡ offering editor here piece
+    room_before : r.progress.header_len < 9 → r.progress.payload_len ≡ 0
+    unfolding impossible
+    room_before l =
+        let f : ltb 0 r.progress.payload_len ≡ false = rw (le-ltb _ _ (header_fits r.progress nine possible), lt-ltb _ _ l) at possible in
+        omega (arith, ltb-false 0 r.progress.payload_len f)
+
+    pub header_short : length piece < 9 - r.progress.header_len
+        → offer_of (record { used = length piece; outcome = More }) (advanced filled filled.progress.header (r.progress.header_len + length piece) r.progress.payload_len) hold text rows nodes
+        ≡ offering editor here piece
     unfolding takes
-    header_short p' header l h e =
+    header_short l =
         let k : length bytes ≡ r.progress.header_len + length piece = omega (arith, bytes_length) in
         let m : length bytes < 9 = omega arith in
-        rw (goes_on, lt-ltb _ _ m, k, ← h, e)
+        let z : r.progress.payload_len ≡ 0 = room_before (omega arith) in
+        rw (goes_on, lt-ltb _ _ m, k, z)
 
     header_whole : 9 - r.progress.header_len ≤ length piece → pad 9 bytes ≡ bytes
     unfolding pad
@@ -172,12 +171,17 @@ module _ (r : Receiver) (piece hold text rows nodes : List ℕ) where
         let k : 9 - length bytes ≡ 0 = omega (arith, bytes_length, header_fits r.progress nine possible) in
         rw k (append-nil bytes)
 
-    pub header_there : (header : List ℕ) → 9 - r.progress.header_len ≤ length piece → header ≡ pad 9 bytes
-        → settles editor (judge editor r.progress.hold_len header) here header (9 - r.progress.header_len) (drop (9 - r.progress.header_len) piece) ≡ offering editor here piece
+    -- what is left of the piece is the part that the code takes of it
+    pub header_there : 9 - r.progress.header_len ≤ length piece
+        → offering editor here piece
+        ≡ settles editor (judge editor r.progress.hold_len filled.progress.header) (world_of filled hold text rows nodes) filled.progress.header (9 - r.progress.header_len)
+        (take (length piece - (9 - r.progress.header_len)) (drop (9 - r.progress.header_len) piece))
     unfolding takes
-    header_there header l h =
+    header_there l =
         let k : 9 ≤ length bytes = omega (arith, bytes_length, header_fits r.progress nine possible) in
-        rw (goes_on, le-ltb _ _ k, h, header_whole l)
+        let q : List ℕ = drop (9 - r.progress.header_len) piece in
+        let rest : take (length piece - (9 - r.progress.header_len)) q ≡ q = take_all _ _ (rw length-drop (omega arith)) in
+        sym (rw rest (settles_filled _ _ _ _ ∙ rw (goes_on, le-ltb _ _ k, header_whole l)))
 
     -- the payload held is no longer than the frame
     room_nine : (n : ℕ) → 9 ≤ r.progress.header_len → judge editor r.progress.hold_len (pad 9 bytes) ≡ gather n → r.progress.payload_len ≤ n
@@ -190,15 +194,9 @@ module _ (r : Receiver) (piece hold text rows nodes : List ℕ) where
         let q : r.progress.payload_len < n = leb-false _ _ f in
         omega arith
 
-    room_before : r.progress.header_len < 9 → r.progress.payload_len ≡ 0
-    unfolding impossible
-    room_before l =
-        let f : ltb 0 r.progress.payload_len ≡ false = rw (le-ltb _ _ (header_fits r.progress nine possible), lt-ltb _ _ l) at possible in
-        omega (arith, ltb-false 0 r.progress.payload_len f)
-
-    pub room : (header : List ℕ) → header ≡ pad 9 bytes → (n : ℕ) → judge editor r.progress.hold_len header ≡ gather n → r.progress.payload_len ≤ n
-    room header h n j = by_count (ltb r.progress.header_len 9) refl
+    pub room : (n : ℕ) → judge editor r.progress.hold_len filled.progress.header ≡ gather n → r.progress.payload_len ≤ n
+    room n j = by_count (ltb r.progress.header_len 9) refl
       where
         by_count : (b : Bool) → ltb r.progress.header_len 9 ≡ b → r.progress.payload_len ≤ n
         by_count true e = omega (arith, room_before (ltb-true _ _ e))
-        by_count false e = room_nine n (ltb-false _ _ e) (rw h at j)
+        by_count false e = room_nine n (ltb-false _ _ e) j

@@ -10,7 +10,6 @@ use Rattle.protocol.specs.Decoding.{Left}
 use Rattle.frame.specs.declared.receiver.Progress.{Progress}
 use Rattle.frame.specs.declared.receiver.Receiver.{Receiver}
 use Rattle.frame.specs.declared.receiver.Offered.{Offered}
-use Rattle.frame.specs.declared.receiver.Stepped.{Stepped}
 use Rattle.frame.specs.declared.receiver.Outcome.{Outcome}
 use Rattle.frame.specs.declared.receiver.Outcome.TheVariants.{More, Handed, Stopped, Refused}
 use Rattle.frame.specs.declared.FrameHeader.{FrameHeader}
@@ -171,12 +170,5 @@ example_long = refl
 abbrev pub world_of : Receiver → (hold text rows nodes : List ℕ) → World
 world_of r hold text rows nodes = record { receiver = r; hold = hold; lent = record { text = text; rows = rows; nodes = nodes } }
 
-abbrev pub offer_of : Offered → (hold text rows nodes : List ℕ) → Offer
-offer_of o hold text rows nodes = record { outcome = o.outcome; used = o.used; world = world_of o.receiver hold text rows nodes }
-
--- the same of a kind table and the rest of a receiver, apart
-abbrev pub receiver_at : (table : List ℕ) → Progress → Receiver
-receiver_at table p = record { table = table; progress = p }
-
-abbrev pub offer_at : (table : List ℕ) → Stepped → (hold text rows nodes : List ℕ) → Offer
-offer_at table o hold text rows nodes = record { outcome = o.outcome; used = o.used; world = world_of (receiver_at table o.progress) hold text rows nodes }
+abbrev pub offer_of : Offered → Receiver → (hold text rows nodes : List ℕ) → Offer
+offer_of o r hold text rows nodes = record { outcome = o.outcome; used = o.used; world = world_of r hold text rows nodes }

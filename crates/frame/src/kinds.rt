@@ -1,6 +1,7 @@
 // The kind bytes of frames (frame.rs, protocol.rs): which message a frame carries, and what asks for one.
 
-// A frame's kind byte. `G` means two things: what a client sends asks for a page, what a server sends opens a copy.
+// A frame's kind byte. `G` means two things: what a client sends asks for a page, what a server sends opens a copy. No enum: any byte may stand in a frame, and
+// which of the two `G` means the byte does not say.
 #[derive(Clone, Copy)]
 pub struct FrameKind(pub u8);
 

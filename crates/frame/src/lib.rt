@@ -17,12 +17,13 @@ ghost use Rattle.frame.specs.Frames.{encode_frame, decode_header, decode_frame};
 
 use varint::Written;
 use varint::error::{Buffer, Refusal};
-use varint::fixed::{get_u32_le, put_u32_le};
+use varint::fixed::put_u32_le;
 use varint::store::{copy_bytes, fill_from, store};
 
-// A frame's header, decoded. `kinds::FrameKind` names the kinds.
+// A frame's header, decoded.
 #[derive(Clone, Copy)]
 pub struct FrameHeader {
+    // A number, since any byte is allowed; `kinds::FrameKind` names the known ones.
     pub kind: u8,
     pub stream: u32,
     pub length: u32,
@@ -44,7 +45,7 @@ impl Frame {
 }
 
 // Writes the frame of a payload, and zeros after it; or a refusal, and nothing is written.
-#[tactic(auto, unfolding(crate::specs::Frames::encode_frame, varint::specs::Outs::wrote, varint::specs::Stores::filled), using(crate::proofs::FrameLaws::length_frame_bytes))]
+#[tactic(auto, unfolding(crate::specs::Frames::encode_frame, varint::specs::Outs::wrote, varint::specs::Stores::filled), using(crate::proofs::FrameLaws::length_frame_bytes, crate::proofs::FrameLaws::frame_sent))]
 pub fn encode_frame(kind: u8, stream: u32, payload: &[u8], out: &mut [u8]) -> Written
     ensures { record { answer = result; out = out.new } ≡ encode_frame 67108864 kind stream payload.now out.old }
 {
@@ -68,14 +69,12 @@ pub fn encode_frame(kind: u8, stream: u32, payload: &[u8], out: &mut [u8]) -> Wr
 }
 
 // The header's field of 4 bytes at place `at`.
+#[tactic(auto, using(crate::proofs::FrameLaws::field_is))]
 fn header_field(bytes: &[u8], at: usize) -> u32
     requires { at + 4 ≤ length bytes.now }
     ensures { result ≡ le (part bytes.now at 4) }
 {
-    match get_u32_le(bytes, at) {
-        Ok((value, _)) => value as u32,
-        Err(_) => 0,
-    }
+    u32::from_le_bytes([bytes[at], bytes[at + 1], bytes[at + 2], bytes[at + 3]])
 }
 
 // Reads a frame's header without waiting for its payload.

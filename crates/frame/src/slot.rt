@@ -7,7 +7,7 @@ use varint::store::{copy_bytes, fill_from};
 
 // Puts the text of `len` bytes from place `start` of `text` on in the slot, as much of it as fits, and spaces after it; or a refusal, and the
 // slot keeps what it shows.
-#[tactic(auto, unfolding(crate::specs::Slots::put_slot))]
+#[tactic(auto, unfolding(crate::specs::Slots::put_slot), using(crate::proofs::SlotLaws::slot_shown))]
 pub fn put_slot(text: &[u8], start: u64, len: u64, slot: &mut [u8]) -> Result<(), Refusal>
     ensures { record { answer = result; slot = slot.new } ≡ put_slot text.now start len slot.old }
 {

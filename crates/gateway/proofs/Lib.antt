@@ -1,6 +1,5 @@
 pub mod AnswerLaws
 pub mod EntryLaws
-pub mod FrameEntryLaws
 pub mod NumberLaws
 pub mod Ranges
 pub mod WalkSteps

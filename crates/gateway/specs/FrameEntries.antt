@@ -71,7 +71,7 @@ open_left o = record { result = (of_done o.opening).refusal.number; answer = num
 unfoldable pub open_call : Receiver → (table hold : List ℕ) → OpenLeft
 open_call r table hold = open_left (opens r table hold)
 
--- what both the step and the entry point that lends its receiver say
+-- what the entry point says, here and where it is exported
 pub record OpensTo (r : Receiver) (table hold answer : List ℕ) (result : ℕ) (r' : Receiver) (hold' answer' : List ℕ) : Type 0 where
   pub is : ◌≡◌ {A = OpenLeft} (record { result = result; answer = answer'; receiver = r'; hold = hold' }) (open_call r table hold)
 

@@ -9,7 +9,7 @@ use protocol::message::Message;
 use varint::Got;
 use varint::error::{Code, Refusal};
 
-// The parts of an answer; what a call does not give is 0.
+// The parts of an answer; what a call does not give is 0. All are numbers, the kind and the message too, since C is told numbers.
 #[derive(Clone, Copy)]
 pub struct Parts {
     pub refusal: Code,

@@ -42,6 +42,7 @@ fn of_frame(a: Result<Frame, Refusal>) -> Parts
     }
 }
 
+#[tactic(auto, unfolding(crate::specs::FrameEntries::encode_frame_call))]
 pub fn fjord_encode_frame(
     kind: u8,
     stream: u32,
@@ -55,18 +56,21 @@ pub fn fjord_encode_frame(
     tell(of_used(written), answer)
 }
 
+#[tactic(auto, unfolding(crate::specs::FrameEntries::header_call))]
 pub fn fjord_decode_header(bytes: &[u8], answer: &mut [u64; 16]) -> u64
     ensures { record { result = result; answer = answer.new } ≡ header_call bytes.now }
 {
     tell(of_header(decode_header(bytes)), answer)
 }
 
+#[tactic(auto, unfolding(crate::specs::FrameEntries::frame_call))]
 pub fn fjord_decode_frame(bytes: &[u8], answer: &mut [u64; 16]) -> u64
     ensures { record { result = result; answer = answer.new } ≡ frame_call bytes.now }
 {
     tell(of_frame(decode_frame(bytes)), answer)
 }
 
+#[tactic(auto, unfolding(crate::specs::FrameEntries::slot_call))]
 pub fn fjord_put_slot(
     text: &[u8],
     start: u64,

@@ -1,12 +1,14 @@
 // Messages as numbers, and back: a message's number, 1 to 12 or 0 for an opaque payload, and six fields.
-ghost use Rattle.std.specs.Prelude.{◌≡◌, ◌<◌, min};
+ghost use Rattle.std.specs.Prelude.{◌≡◌, ◌<◌};
 ghost use Rattle.varint.specs.Choice.{pick};
+ghost use Rattle.protocol.specs.Entries.{entry_number};
 ghost use Rattle.protocol.specs.Fields.{narrow, yes};
 ghost use Rattle.gateway.specs.Numbers.{number_of, reply_fields, fetch_fields, fields_of, span_at, is_flag, message_of};
 
+use protocol::entry::Entry;
 use protocol::message::{ControlOp, ControlReply, ErrorCode, Message, Mode, Span};
 
-// Which of the twelve a message is; an opaque payload is 0.
+// Which of the twelve a message is; an opaque payload is 0. C is told the number.
 pub(crate) fn number_of(message: Message) -> u64
     ensures { result ≡ number_of message }
 {
@@ -105,16 +107,6 @@ pub(crate) fn fields_of(message: Message) -> [u64; 6]
     }
 }
 
-// The number as a byte; 255, which is no mode, no code and no op, stands for every greater one.
-fn byte_of(n: u64) -> u8
-    ensures { result ≡ min n 255 }
-{
-    if 255 < n {
-        return 255;
-    }
-    n as u8
-}
-
 // The text whose start and length stand in the fields from number `k` on.
 fn span_at(f: &[u64; 6], k: usize) -> Span
     requires { k < 5 }
@@ -149,7 +141,8 @@ fn find_startup(f: &[u64; 6]) -> Option<Message>
     ensures { result ≡ message_of 1 f.now }
 {
     let version = narrowed(f[0])?;
-    let mode = Mode::try_from(byte_of(f[3])).ok()?;
+    let byte = u8::try_from(f[3]).ok()?;
+    let mode = Mode::try_from(byte).ok()?;
     Some(Message::Startup {
         version,
         database: span_at(f, 1),
@@ -175,7 +168,8 @@ fn find_ready(f: &[u64; 6]) -> Option<Message>
 fn find_error(f: &[u64; 6]) -> Option<Message>
     ensures { result ≡ message_of 3 f.now }
 {
-    let code = ErrorCode::try_from(byte_of(f[0])).ok()?;
+    let byte = u8::try_from(f[0]).ok()?;
+    let code = ErrorCode::try_from(byte).ok()?;
     Some(Message::Error {
         code,
         text: span_at(f, 1),
@@ -186,7 +180,8 @@ fn find_error(f: &[u64; 6]) -> Option<Message>
 fn find_control(f: &[u64; 6]) -> Option<Message>
     ensures { result ≡ message_of 7 f.now }
 {
-    let op = ControlOp::try_from(byte_of(f[0])).ok()?;
+    let byte = u8::try_from(f[0]).ok()?;
+    let op = ControlOp::try_from(byte).ok()?;
     let allow_zero_facts = flag(f[3])?;
     Some(Message::Control {
         op,
@@ -200,7 +195,8 @@ fn find_control(f: &[u64; 6]) -> Option<Message>
 fn find_reply(f: &[u64; 6]) -> Option<Message>
     ensures { result ≡ message_of 8 f.now }
 {
-    let op = ControlOp::try_from(byte_of(f[0])).ok()?;
+    let byte = u8::try_from(f[0]).ok()?;
+    let op = ControlOp::try_from(byte).ok()?;
     match op {
         ControlOp::Create => Some(Message::Reply(ControlReply::Created {
             instance: span_at(f, 1),
@@ -244,31 +240,30 @@ fn find_listing_digest(f: &[u64; 6]) -> Option<Message>
     })
 }
 
-// The message of the twelve that has this number and these fields, if there is one.
+// The message that an entry names, of these fields, if there is one. A `match`, since C says which.
 #[tactic(auto, unfolding(crate::specs::Numbers::message_of, crate::specs::Numbers::message_from, crate::specs::Numbers::is_message))]
-pub(crate) fn message_of(number: u64, f: &[u64; 6]) -> Option<Message>
-    ensures { result ≡ message_of number f.now }
+pub(crate) fn message_of(entry: Entry, f: &[u64; 6]) -> Option<Message>
+    ensures { result ≡ message_of (entry_number entry) f.now }
 {
-    match number {
-        1 => find_startup(f),
-        2 => find_ready(f),
-        3 => find_error(f),
-        4 => Some(Message::Complete {
+    match entry {
+        Entry::Startup => find_startup(f),
+        Entry::Ready => find_ready(f),
+        Entry::Error => find_error(f),
+        Entry::Complete => Some(Message::Complete {
             first: f[0],
             second: f[1],
         }),
-        5 => Some(Message::Ids { count: f[0] }),
-        6 => Some(Message::Types { count: f[0] }),
-        7 => find_control(f),
-        8 => find_reply(f),
-        9 => Some(Message::Profile { steps: f[0] }),
-        10 => Some(Message::Page {
+        Entry::Ids => Some(Message::Ids { count: f[0] }),
+        Entry::Types => Some(Message::Types { count: f[0] }),
+        Entry::Control => find_control(f),
+        Entry::Reply => find_reply(f),
+        Entry::Profile => Some(Message::Profile { steps: f[0] }),
+        Entry::Page => Some(Message::Page {
             limit: f[0],
             cursor: span_at(f, 1),
             query: span_at(f, 3),
         }),
-        11 => find_fetch(f),
-        12 => find_listing_digest(f),
-        _ => None,
+        Entry::Fetch => find_fetch(f),
+        Entry::ListingDigest => find_listing_digest(f),
     }
 }

@@ -1,4 +1,5 @@
 // The C entry points of the fjord session wire, as include/fjord_wire.h declares them: the gateway's functions under the same names and with the same clauses.
+// Each buffer is lent alone, as C passes it.
 #![tactic(auto)]
 
 ghost use Rattle.std.specs.Prelude.{◌≡◌};

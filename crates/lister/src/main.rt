@@ -7,7 +7,6 @@ ghost use Rattle.std.specs.Prelude.{◌≡◌, ◌+◌, ◌*◌, ◌<◌, ◌≤
 ghost use Rattle.std.specs.Io.KnownBytes.{Appends, Consumes, IsAtEnd, Keeps};
 ghost use Rattle.io.specs.Counts.{IsPrefixLen};
 
-use frame::receiver;
 use frame::receiver::Receiver;
 use listing::Last;
 use std::io::{Error, ErrorKind, Read, Result, Write};
@@ -18,6 +17,11 @@ const CHUNK: usize = 32768;
 
 // Room for the lines of so much: at most 84 bytes for each nine bytes, and 84 more.
 const PAGE: usize = 307200;
+
+// Hold and text have so many bytes, rows and nodes so many numbers.
+const BYTES: usize = 65536;
+
+const NUMBERS: usize = 8192;
 
 // Room for the last line.
 const LAST_LINE: usize = 29;
@@ -92,82 +96,60 @@ fn print_last<W: Write>(output: &mut W, last: Last) -> Result<()> {
     print(output, &line, n)
 }
 
-// The run so far: its receiver, how it ends if nothing follows, and whether there may be more of it.
-#[derive(Clone, Copy)]
-struct Run {
-    receiver: Receiver,
-    last: Last,
-    more: bool,
+// The memory of a run: a piece and the page of its lines, and what the receiver is lent.
+#[derive(Drop)]
+struct Memory {
+    chunk: [u8; CHUNK],
+    page: [u8; PAGE],
+    hold: [u8; BYTES],
+    text: [u8; BYTES],
+    rows: [u64; NUMBERS],
+    nodes: [u64; NUMBERS],
 }
 
-fn is_over(last: Last) -> bool {
-    match last {
-        Last::Held(_) => false,
-        Last::Stopped(_) => true,
-    }
-}
-
-// Reads the next piece of the run and prints its lines, for all of which the page has room.
+// Reads the next piece of the run and prints its lines, for all of which the page has room: how the run ends if no piece follows, or nothing where this is its
+// end.
 fn list_next<R: Read, W: Write>(
-    run: Run,
+    receiver: &mut Receiver,
     input: &mut R,
     output: &mut W,
-    chunk: &mut [u8],
-    hold: &mut [u8],
-    text: &mut [u8],
-    rows: &mut [u64],
-    nodes: &mut [u64],
-    page: &mut [u8],
-) -> Result<Run>
-    requires { 84 * (length chunk.old + 9) ≤ 9 * length page.old }
-{
-    let before = run.receiver;
-    let last = run.last;
-    let n = read_some(input, chunk)?;
+    memory: &mut Memory,
+) -> Result<Option<Last>> {
+    let n = read_some(input, &mut memory.chunk)?;
     if n == 0 {
-        return Ok(Run {
-            receiver: before,
-            last,
-            more: false,
-        });
+        return Ok(None);
     }
-    let l = listing::list_piece(before, &chunk[..n], hold, text, rows, nodes, page);
-    let receiver = l.receiver;
-    let last = l.last;
-    print(output, page, l.len)?;
-    Ok(Run {
+    let listed = listing::list_piece(
         receiver,
-        last,
-        more: !is_over(last),
-    })
+        &memory.chunk[..n],
+        &mut memory.hold,
+        &mut memory.text,
+        &mut memory.rows,
+        &mut memory.nodes,
+        &mut memory.page,
+    );
+    print(output, &memory.page, listed.len)?;
+    Ok(Some(listed.last))
 }
 
-// Lists a run to its end or its stop. Nothing says that the input ends, so the pieces are counted up to a number that no run uses up.
+// Lists a run to its end or its stop, and answers how it ends. Nothing says that the input ends, so the pieces are counted up to a number that no run uses up.
 fn list_run<R: Read, W: Write>(
-    receiver: Receiver,
+    receiver: &mut Receiver,
     input: &mut R,
     output: &mut W,
-    chunk: &mut [u8],
-    hold: &mut [u8],
-    text: &mut [u8],
-    rows: &mut [u64],
-    nodes: &mut [u64],
-    page: &mut [u8],
-) -> Result<Run>
-    requires { 84 * (length chunk.old + 9) ≤ 9 * length page.old }
-{
-    let mut run = Run {
-        receiver,
-        last: Last::Held(0),
-        more: true,
-    };
+    memory: &mut Memory,
+) -> Result<Last> {
+    let mut last = Last::Held(0);
     for _ in 0..u64::MAX {
-        if !run.more {
+        let Last::Held(_) = last else {
             break;
+        };
+        match list_next(receiver, input, output, memory)? {
+            Some(next) => last = next,
+            None => break,
         }
-        run = list_next(run, input, output, chunk, hold, text, rows, nodes, page)?;
     }
-    Ok(run)
+    Ok(last)
 }
 
 // A function of its own, since the prover does not write so long an array out.
@@ -175,38 +157,23 @@ fn empty_page() -> [u8; PAGE] {
     [0; PAGE]
 }
 
-// Lends the run its memory: text of 65,536 bytes as the hold has, rows and nodes of 8,192 numbers.
-fn list_opened<R: Read, W: Write>(
-    receiver: Receiver,
-    input: &mut R,
-    output: &mut W,
-    hold: &mut [u8],
-) -> Result<()> {
-    let mut chunk = [0u8; CHUNK];
-    let mut text = io::large_buffer();
-    let mut rows = [0u64; 8192];
-    let mut nodes = [0u64; 8192];
-    let mut page = empty_page();
-    let run = list_run(
-        receiver, input, output, &mut chunk, hold, &mut text, &mut rows, &mut nodes, &mut page,
-    )?;
-    let last = run.last;
-    print_last(output, last)
-}
-
 fn main(rt: HostRuntime) -> Result<()> {
     let mut input = rt.stdin();
     let mut output = rt.stdout();
     let mut table = [0u8; 256];
     let n = read_full(&mut input, &mut table)?;
-    let mut hold = io::large_buffer();
-    let o = receiver::open(receiver::unopened(), &table[..n], &mut hold);
-    let opening = o.opening;
-    match opening {
-        Err(e) => print_last(&mut output, Last::Stopped(Code::from(e).number)),
-        Ok(()) => {
-            let r = o.receiver;
-            list_opened(r, &mut input, &mut output, &mut hold)
-        }
-    }
+    let mut memory = Memory {
+        chunk: [0; CHUNK],
+        page: empty_page(),
+        hold: io::large_buffer(),
+        text: io::large_buffer(),
+        rows: [0; NUMBERS],
+        nodes: [0; NUMBERS],
+    };
+    let mut receiver = Receiver::unopened();
+    let last = match receiver.open(&table[..n], &mut memory.hold) {
+        Err(e) => Last::Stopped(Code::from(e).number),
+        Ok(()) => list_run(&mut receiver, &mut input, &mut output, &mut memory)?,
+    };
+    print_last(&mut output, last)
 }

@@ -5,7 +5,7 @@ use Prim.Native.Nat.{ℕ, zero, suc, ◌+◌, ◌-◌, ◌*◌, ◌/◌, ◌%◌
 use native.Mathlib.Nat.{pow-suc, one-le-pow}
 use native.Mathlib.Omega.{arith}
 use lib.Dec.{lit<}
-use lib.ListN.{length, length-append}
+use lib.ListN.{length, set, length-append}
 use lib.Seq.{sets}
 use borrow.Author.Tests.{lt-ltb, le-ltb}
 use mathlib.Core.Logic.{⊎_elim}
@@ -81,14 +81,10 @@ digits_decimal (suc (suc k)) n h =
 
 -- Texts in parts
 
--- the text x is stored in d from place `at` on, and ends at place p
-pub record Stored (d : List ℕ) (at : ℕ) (x d' : List ℕ) (p : ℕ) : Type 0 where
-  pub place : p ≡ at + length x
-  pub same : d' ≡ sets d at x
+-- a text stored behind another is stored with it
+pub sets_after : (x y d : List ℕ) (at p : ℕ) → p ≡ at + length x → sets (sets d at x) p y ≡ sets d at (x ++ y)
+sets_after x y d at p e = rw e (sym (sets_append x y d at))
 
--- y is stored behind it
-pub stored_more : {d : List ℕ} {at : ℕ} {x d₁ : List ℕ} {p : ℕ} → Stored d at x d₁ p → (y : List ℕ) {d₂ : List ℕ} {r : ℕ} → r ≡ length y → d₂ ≡ sets d₁ p y
-    → Stored d at (x ++ y) d₂ (p + r)
-stored_more {d} {at} {x} s y e f =
-    let q = s.place in
-    record { place = rw length-append (omega arith); same = f ∙ rw (s.same, s.place) (sym (sets_append x y d at)) }
+-- and so is one byte
+pub set_after : (x d : List ℕ) (at p a : ℕ) → p ≡ at + length x → set (sets d at x) p a ≡ sets d at (x ++ (a ∷ []))
+set_after x d at p a e = sets_after x (a ∷ []) d at p e

@@ -39,3 +39,10 @@ sets_part x d at h =
     let none : drop (length d - at) (drop at d) ≡ [] = drop_of_length-le (drop at d) {i = length d - at} (omega arith) in
     let n : length (take at d) + 0 ≡ at = rw (add-zero, length-take-le at d h) in
     rw (all, none, append-nil) (sym (sets_behind x (take at d) (drop at d) 0) ∙ rw (take-append-drop, n))
+
+-- a text in the part of the page from `from` on, the place `at` or the page's end
+pub placed : (x d : List ℕ) (at from : ℕ) {part : List ℕ} → from ≡ min at (length d) → part ≡ sets (mid_of from (length d - from) d) 0 x
+    → put_mid from (length d - from) d part ≡ sets d at x
+placed x d at from e f =
+    let k : from ≤ length d = omega arith in
+    rw f (sets_part x d from k ∙ rw e (sets_past x d at (length d) (omega arith)))

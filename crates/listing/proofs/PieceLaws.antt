@@ -12,10 +12,11 @@ use Rattle.varint.proofs.StoreLaws.{sets_append}
 use Rattle.frame.specs.declared.FrameHeader.{FrameHeader}
 use Rattle.frame.specs.declared.receiver.Outcome.{Outcome}
 use Rattle.frame.specs.declared.receiver.Outcome.TheVariants.{More, Handed, Stopped, Refused}
-use Rattle.frame.specs.declared.receiver.Stepped.{Stepped}
+use Rattle.frame.specs.declared.receiver.Offered.{Offered}
+use Rattle.frame.specs.declared.receiver.Receiver.{Receiver}
 use Rattle.frame.specs.Worlds.{World, Lent, editor}
 use Rattle.frame.specs.Reading.{frame, Run, done, after}
-use Rattle.frame.specs.Offering.{Offer, offering, offer_at, world_of, receiver_at}
+use Rattle.frame.specs.Offering.{Offer, offering, offer_of, world_of}
 use Rattle.frame.specs.Driving.{plus, Driven, later, driving}
 use Rattle.frame.proofs.OfferUses.{offer_within, handed_uses}
 use Rattle.frame.proofs.DrivingLaws.{driving_none, driving_more, driving_handed, driving_stopped, driving_refused, handed_takes}
@@ -96,14 +97,14 @@ pub record Going (to : Listing) (piece : List ℕ) (w : World) (page : List ℕ)
 pub go_start : (w : World) (piece page : List ℕ) → Going (listed (run_of w piece) page) piece w page 0 0
 go_start w piece page = record { within = omega arith; same = from_start (run_of w piece) page; counted = omega arith; room = omega arith }
 
-module _ {to : Listing} {piece : List ℕ} {w : World} {page : List ℕ} {at len : ℕ} (g : Going to piece w page at len) {o : Stepped} {table hold text rows nodes : List ℕ}
-    (e : offer_at table o hold text rows nodes ≡ offering editor w (mid_of at (length piece - at) piece)) where
+module _ {to : Listing} {piece : List ℕ} {w : World} {page : List ℕ} {at len : ℕ} (g : Going to piece w page at len) {o : Offered} {r : Receiver} {hold text rows nodes : List ℕ}
+    (e : offer_of o r hold text rows nodes ≡ offering editor w (mid_of at (length piece - at) piece)) where
   -- the slice that is offered
-  offered : offer_at table o hold text rows nodes ≡ offering editor w (drop at piece)
+  offered : offer_of o r hold text rows nodes ≡ offering editor w (drop at piece)
   offered = rw (take_all (length piece - at) (drop at piece) (rw length-drop (omega arith))) at e
 
   abbrev next : World
-  next = world_of (receiver_at table o.progress) hold text rows nodes
+  next = world_of r hold text rows nodes
 
   -- a frame
   module _ (h : FrameHeader) (a : Result Message Refusal) (f : o.outcome ≡ Handed h a) where
@@ -133,7 +134,7 @@ module _ {to : Listing} {piece : List ℕ} {w : World} {page : List ℕ} {at len
         }
 
   -- the end
-  pub go_end : {last : Last} → ((h : FrameHeader) (a : Result Message Refusal) → o.outcome ≡ Handed h a → ⊥) → last ≡ last_by o.outcome (receiver_at table o.progress)
+  pub go_end : {last : Last} → ((h : FrameHeader) (a : Result Message Refusal) → o.outcome ≡ Handed h a → ⊥) → last ≡ last_by o.outcome r
       → (record { world = next; last = last; len = len; page = page } ≡ to) × (9 * len ≤ 84 * (length piece + 9))
   go_end k q =
       let i = g.within in

@@ -54,8 +54,8 @@ listed r page = record {
 }
 
 -- the memory of a call, as the definition has it
-abbrev pub listing_of : Listed → (hold text rows nodes page : List ℕ) → Listing
-listing_of l hold text rows nodes page = record { world = world_of l.receiver hold text rows nodes; last = l.last; len = l.len; page = page }
+abbrev pub listing_of : Listed → Receiver → (hold text rows nodes page : List ℕ) → Listing
+listing_of l r hold text rows nodes page = record { world = world_of r hold text rows nodes; last = l.last; len = l.len; page = page }
 
 -- ---- a run
 

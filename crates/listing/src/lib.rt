@@ -1,5 +1,6 @@
 // The lines that the lister prints, as bytes in a lent buffer: of a frame, of a piece of a run, and of its end. A writer stores what lies inside the buffer and
-// answers how many bytes its text has.
+// answers how many bytes its text has. The buffer and the place in it stand side by side, since `put_decimal` may be asked for a place past the end; so do text,
+// rows and nodes, as `Receiver::offer` takes them.
 #![tactic(auto)]
 
 ghost use Rattle.std.specs.Prelude.{◌≡◌, [], ◌∷◌, ◌+◌, ◌*◌, ◌≤◌, length};
@@ -12,8 +13,8 @@ ghost use Rattle.listing.specs.Listing.{listed, listing_of};
 ghost use Rattle.listing.specs.Inner.Lasts.{last_by};
 ghost use Rattle.listing.specs.Lines.{decimal, column, line_of, number_of, held_of, last_line};
 
+use frame::FrameHeader;
 use frame::receiver::{Outcome, Receiver};
-use frame::{FrameHeader, receiver};
 use protocol::message::Message;
 use varint::error::{Code, Refusal};
 use varint::store::{copy_bytes, store};
@@ -26,6 +27,7 @@ pub enum Last {
 }
 
 // The decimal digits of `n`, from place `at` on.
+#[tactic(auto, unfolding(varint::specs::Stores::part), using(crate::proofs::LineLaws::digits_decimal, varint::proofs::StoreLaws::part_all))]
 pub fn put_decimal(out: &mut [u8], at: usize, n: u64) -> usize
     ensures { (result ≡ length (decimal n)) × (out.new ≡ sets out.old at (decimal n)) }
 {
@@ -36,6 +38,7 @@ pub fn put_decimal(out: &mut [u8], at: usize, n: u64) -> usize
 }
 
 // A number and the byte after it.
+#[tactic(auto, unfolding(crate::specs::Lines::column), using(crate::proofs::LineLaws::decimal_length_64, crate::proofs::LineLaws::set_after, std::proofs::lemmas::Grind::common_steps))]
 fn put_column(out: &mut [u8], at: usize, n: u64, end: u8) -> usize
     requires { at ≤ 100 }
     ensures { (result ≡ length (column n end)) × (result ≤ 21) × (out.new ≡ sets out.old at (column n end)) }
@@ -56,19 +59,19 @@ pub fn number_of(answer: Result<Message, Refusal>) -> u64
 }
 
 // The header and payload bytes that a receiver holds; 2^64−1 stands for more as well.
-fn held_of(receiver: Receiver) -> u64
-    ensures { result ≡ held_of receiver }
+fn held_of(receiver: &Receiver) -> u64
+    ensures { result ≡ held_of receiver.now }
 {
-    let progress = receiver.progress;
-    let header = progress.header_len as u64;
-    let payload = progress.payload_len as u64;
+    let header = receiver.progress.header_len as u64;
+    let payload = receiver.progress.payload_len as u64;
     if u64::MAX - header < payload {
         return u64::MAX;
     }
     header + payload
 }
 
-// The line of a frame, from the start of `out` on. It has at most 84 bytes.
+// The line of a frame, from the start of `out` on. It has at most 84 bytes. `number` is the refusal's number as it is printed, or 0.
+#[tactic(auto, unfolding(crate::specs::Lines::line_of), using(crate::proofs::LineLaws::sets_after, std::proofs::lemmas::Grind::common_steps))]
 pub fn put_line(out: &mut [u8], kind: u8, stream: u32, len: u32, number: u64) -> usize
     ensures { (result ≡ length (line_of kind stream len number)) × (result ≤ 84) × (out.new ≡ sets out.old 0 (line_of kind stream len number)) }
 {
@@ -79,6 +82,7 @@ pub fn put_line(out: &mut [u8], kind: u8, stream: u32, len: u32, number: u64) ->
 }
 
 // The last line, from the start of `out` on. It has at most 29 bytes.
+#[tactic(auto, unfolding(crate::specs::Lines::last_line, varint::specs::Stores::part), using(crate::proofs::LineLaws::sets_after))]
 pub fn put_last(out: &mut [u8], last: Last) -> usize
     ensures { (result ≡ length (last_line last)) × (result ≤ 29) × (out.new ≡ sets out.old 0 (last_line last)) }
 {
@@ -94,16 +98,16 @@ pub fn put_last(out: &mut [u8], last: Last) -> usize
     }
 }
 
-// A piece that was listed: the receiver after it, how many bytes its lines have, and how the run ends if no piece follows.
+// A piece that was listed: how many bytes its lines have, and how the run ends if no piece follows.
 #[derive(Clone, Copy)]
 pub struct Listed {
-    pub receiver: Receiver,
     pub len: usize,
     pub last: Last,
 }
 
 // The line of a frame, from place `at` of the page on: what lies past the page's end is counted and not stored. Answers the place after it, 2^64−1 for any
 // place past that.
+#[tactic(auto, using(crate::proofs::PageLaws::placed))]
 fn add_line(page: &mut [u8], at: usize, header: FrameHeader, number: u64) -> usize
     ensures { (result ≡ declared (at + length (line_of header.kind header.stream header.length number))) × (result ≤ at + 84) × (page.new ≡ sets page.old at (line_of header.kind header.stream header.length number)) }
 {
@@ -122,8 +126,8 @@ fn add_line(page: &mut [u8], at: usize, header: FrameHeader, number: u64) -> usi
 }
 
 // How a run ends whose last offer was answered so.
-fn last_of(receiver: Receiver, outcome: Outcome) -> Last
-    ensures { result ≡ last_by outcome receiver }
+fn last_of(receiver: &Receiver, outcome: Outcome) -> Last
+    ensures { result ≡ last_by outcome receiver.now }
 {
     match outcome {
         Outcome::More => Last::Held(held_of(receiver)),
@@ -139,7 +143,7 @@ fn last_of(receiver: Receiver, outcome: Outcome) -> Last
 // Offers a piece until it is used up or the run ends, and puts the lines of its frames on the page. A page of 84 bytes for each nine bytes of the piece, and 84
 // more, has room for them all. No `for`: each step tells how much of the piece it used.
 pub fn list_piece(
-    receiver: Receiver,
+    receiver: &mut Receiver,
     piece: &[u8],
     hold: &mut [u8],
     text: &mut [u8],
@@ -147,25 +151,19 @@ pub fn list_piece(
     nodes: &mut [u64],
     page: &mut [u8],
 ) -> Listed
-    ensures { (listing_of result hold.new text.new rows.new nodes.new page.new ≡ listed (driving editor (world_of receiver hold.old text.old rows.old nodes.old) (piece.now ∷ [])).run page.old) × (9 * result.len ≤ 84 * (length piece.now + 9)) }
+    ensures { (listing_of result receiver.new hold.new text.new rows.new nodes.new page.new ≡ listed (driving editor (world_of receiver.old hold.old text.old rows.old nodes.old) (piece.now ∷ [])).run page.old) × (9 * result.len ≤ 84 * (length piece.now + 9)) }
 {
-    let table = receiver.table;
-    let mut progress = receiver.progress;
     let mut at = 0;
     let mut len = 0;
     loop {
-        let o = receiver::step(&table, progress, &piece[at..], hold, text, rows, nodes);
-        progress = o.progress;
-        let outcome = o.outcome;
-        let Outcome::Handed { header, answer } = outcome else {
-            let receiver = Receiver { table, progress };
+        let offered = receiver.offer(&piece[at..], hold, text, rows, nodes);
+        let Outcome::Handed { header, answer } = offered.outcome else {
             return Listed {
-                receiver,
                 len,
-                last: last_of(receiver, outcome),
+                last: last_of(receiver, offered.outcome),
             };
         };
         len = add_line(page, len, header, number_of(answer));
-        at += o.used;
+        at += offered.used;
     }
 }

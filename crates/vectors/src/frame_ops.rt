@@ -4,13 +4,15 @@
 // A receiver is its kind table, of which zeros at the end are left out, its header, and its numbers in their order. `open` has a receiver, a kind table and
 // the length of the hold. `offer` has the kind table and the length of the hold of an opening, `offer_to` a receiver and the bytes of its hold; then both have
 // the length of text, how many numbers rows and nodes have, how many pieces come, and the pieces.
-use crate::answer::{Answer, Hex, Numbers, tell, tell_code, tell_result, tell_written};
+use crate::answer::{
+    Answer, Hex, Numbers, tell, tell_code, tell_refusal, tell_result, tell_written,
+};
 use crate::fault::Fault;
 use crate::fields::fields_of;
 use crate::lent::Lent;
 use crate::request::Request;
 use frame::receiver::{Outcome, Progress, Receiver};
-use frame::{FrameHeader, receiver, slot};
+use frame::{FrameHeader, slot};
 use std::alloc::Global;
 use std::fmt;
 
@@ -102,13 +104,13 @@ impl fmt::Display for Held<'_> {
 }
 
 pub fn open(request: &mut Request<'_>) -> Answer {
-    let before = take_receiver(request)?;
+    let mut receiver = take_receiver(request)?;
     let table = request.bytes()?;
     let mut hold = request.room()?;
-    let opened = receiver::open(before, &table, &mut hold);
-    let told = tell_result(request.alloc, "accepted", opened.opening.map(|()| []))?;
+    let opened = receiver.open(&table, &mut hold);
+    let told = tell_result(request.alloc, "accepted", opened.map(|()| []))?;
     let held = Held {
-        receiver: &opened.receiver,
+        receiver: &receiver,
         hold: &hold,
     };
     Ok(format!(in request.alloc; "{told} {held}")?)
@@ -128,42 +130,39 @@ fn tell_outcome(alloc: Global, outcome: Outcome) -> Answer {
 }
 
 // Offers the pieces one after the other, each once.
-fn offer_pieces(request: &mut Request<'_>, first: Receiver, hold: &mut [u8]) -> Answer {
+fn offer_pieces(request: &mut Request<'_>, receiver: &mut Receiver, hold: &mut [u8]) -> Answer {
     let alloc = request.alloc;
     let mut lent = Lent::take(request)?;
     let count: u64 = request.number()?;
-    let mut receiver = first;
     let mut told = String::new(alloc);
     for _ in 0..count {
         let piece = request.bytes()?;
-        let offered = receiver::offer(
-            receiver,
+        let offered = receiver.offer(
             &piece,
             hold,
             &mut lent.text,
             &mut lent.rows,
             &mut lent.nodes,
         );
-        receiver = offered.receiver;
         let outcome = tell_outcome(alloc, offered.outcome)?;
         write!(told, "used {} {outcome} ", offered.used)?;
     }
-    let held = Held {
-        receiver: &receiver,
-        hold,
-    };
+    let held = Held { receiver, hold };
     Ok(format!(in alloc; "{told}{held} {lent}")?)
 }
 
 pub fn offer(request: &mut Request<'_>) -> Answer {
     let table: [u8; 256] = request.array()?;
     let mut hold = request.room()?;
-    let opened = receiver::open(receiver::unopened(), &table, &mut hold);
-    offer_pieces(request, opened.receiver, &mut hold)
+    let mut receiver = Receiver::unopened();
+    if let Err(why) = receiver.open(&table, &mut hold) {
+        return tell_refusal(request.alloc, why);
+    }
+    offer_pieces(request, &mut receiver, &mut hold)
 }
 
 pub fn offer_to(request: &mut Request<'_>) -> Answer {
-    let receiver = take_receiver(request)?;
+    let mut receiver = take_receiver(request)?;
     let mut hold = request.bytes()?;
-    offer_pieces(request, receiver, &mut hold)
+    offer_pieces(request, &mut receiver, &mut hold)
 }

@@ -3,7 +3,7 @@
 // A request has the length of the pieces in which the run is offered, and the input. The answer has the lines, a newline in them as `/`.
 use crate::answer::Answer;
 use crate::request::Request;
-use frame::receiver;
+use frame::receiver::Receiver;
 use listing::Last;
 use std::alloc::{AllocError, Global};
 use varint::error::Code;
@@ -25,18 +25,22 @@ fn list_run(alloc: Global, size: usize, input: &[u8]) -> Result<Vec<u8>, AllocEr
     let mut nodes = vec![in alloc; 0u64; NUMBERS]?;
     let mut page = vec![in alloc; 0u8; BYTES]?;
     let mut lines = Vec::new(alloc);
-    let opened = receiver::open(receiver::unopened(), table, &mut hold);
-    let mut receiver = opened.receiver;
-    let mut last = match opened.opening {
+    let mut receiver = Receiver::unopened();
+    let mut last = match receiver.open(table, &mut hold) {
         Ok(()) => Last::Held(0),
         Err(why) => Last::Stopped(Code::from(why).number),
     };
     if size > 0 {
         for piece in run.chunks(size) {
             let listed = listing::list_piece(
-                receiver, piece, &mut hold, &mut text, &mut rows, &mut nodes, &mut page,
+                &mut receiver,
+                piece,
+                &mut hold,
+                &mut text,
+                &mut rows,
+                &mut nodes,
+                &mut page,
             );
-            receiver = listed.receiver;
             last = listed.last;
             lines.extend_from_slice(page.get(..listed.len).unwrap_or(&page))?;
         }

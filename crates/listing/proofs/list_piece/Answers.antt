@@ -9,23 +9,20 @@ use Rattle.listing.proofs.list_piece.Goals as goal
 pub loop-header-init : goal.loop-header-init
 loop-header-init c = (go_start _ _ _, search rules, search rules, search rules, search rules, search rules)
 
-pub slice_bounds-step-count : goal.slice_bounds-step-count
-slice_bounds-step-count c = omega (arith, c.loop-header.invariant.0.within)
-
 pub returns-in_default : goal.returns-in_default
 returns-in_default c =
     let l = c.loop-header in
-    go_end l.invariant.0 c.step-o.ensures c.in_default.not-Handed c.last_of.ensures
+    go_end l.invariant.0 c.offer-offered.ensures c.in_default.not-Handed c.last_of.ensures
 
 pub overflow_add-at : goal.overflow_add-at
 overflow_add-at c =
-    let u = go_used c.loop-header.invariant.0 c.step-o.ensures _ _ c.in-Handed.is in
+    let u = go_used c.loop-header.invariant.0 c.offer-offered.ensures _ _ c.in-Handed.is in
     let f = c.well_formed.1.0.1 in
     omega arith
 
 pub loop-header-smaller : goal.loop-header-smaller
 loop-header-smaller c =
-    let u = go_used c.loop-header.invariant.0 c.step-o.ensures _ _ c.in-Handed.is in
+    let u = go_used c.loop-header.invariant.0 c.offer-offered.ensures _ _ c.in-Handed.is in
     omega arith
 
 pub loop-header-preserved : goal.loop-header-preserved
@@ -35,4 +32,4 @@ loop-header-preserved c =
     let p : length l.page ≡ length c.args.page.now = l.invariant.5 in
     let f : length c.args.page.now * 1 < 2 ^ 63 = c.well_formed.1.1.1.1.1.1.0.1 in
     let k : length l.page ≤ furthest = omega arith in
-    (go_on l.invariant.0 c.step-o.ensures _ _ c.in-Handed.is c.number_of.ensures c.add_line-len.ensures.0 c.add_line-len.ensures.1 c.add_line-len.ensures.2 k, search rules, search rules, search rules, search rules, search rules)
+    (go_on l.invariant.0 c.offer-offered.ensures _ _ c.in-Handed.is c.number_of.ensures c.add_line-len.ensures.0 c.add_line-len.ensures.1 c.add_line-len.ensures.2 k, search rules, search rules, search rules, search rules, search rules)

@@ -1,7 +1,7 @@
 use mathlib.Core.Path.{◌≡◌}
 use Prim.Native.Nat.{◌-◌}
 use lib.ListN.{length}
-use Rattle.frame.specs.Offering.{world_of, receiver_at}
+use Rattle.frame.specs.Offering.{world_of}
 use Rattle.listing.specs.Listing.{listed}
 use Rattle.listing.proofs.PieceLaws.{run_of, Going}
 use Rattle.listing.proofs.list_piece.Given as goal
@@ -9,7 +9,7 @@ use Rattle.listing.proofs.list_piece.Given as goal
 -- `list_piece` meets its contract: what is left of the piece leads to the same end at each turn, and its length falls.
 abbrev pub invariant-loop-header : goal.invariant-loop-header
 invariant-loop-header l =
-    Going (listed (run_of (world_of (receiver_at l.table l.initial.progress) l.initial.hold l.initial.text l.initial.rows l.initial.nodes) l.piece) l.initial.page) l.piece (world_of (receiver_at l.table l.progress) l.hold l.text l.rows l.nodes) l.page l.at l.len
+    Going (listed (run_of (world_of l.initial.receiver l.initial.hold l.initial.text l.initial.rows l.initial.nodes) l.piece) l.initial.page) l.piece (world_of l.receiver l.hold l.text l.rows l.nodes) l.page l.at l.len
     × (length l.hold ≡ length l.initial.hold)
     × (length l.text ≡ length l.initial.text)
     × (length l.rows ≡ length l.initial.rows)
