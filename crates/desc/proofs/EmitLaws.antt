@@ -2,23 +2,25 @@
 use mathlib.Core.Bool.{Bool, true, false, ◌||◌}
 use mathlib.Core.Path.{◌≡◌, refl, sym, ap, ◌∙◌}
 use mathlib.Core.List.{List}
-use Prim.Native.Nat.{ℕ, zero, suc, ◌+◌, ◌-◌, ◌/◌, ◌≤◌, ◌<◌}
+use Prim.Native.Nat.{ℕ, zero, suc, ◌+◌, ◌-◌, ◌≤◌, ◌<◌}
 use native.Mathlib.Omega.{arith}
 use lib.Dec.{eqb}
-use lib.ListN.{length}
+use lib.ListN.{get_or}
 use borrow.Author.Tests.{eq-eqb, ne_eqb, eqb-true, eqb-false}
 use Rattle.varint.specs.Choice.{pick}
 use Rattle.varint.specs.Got.{Got, then}
 use Rattle.varint.specs.declared.error.Fault.TheVariants.{Layout}
 use Rattle.varint.specs.declared.error.Refusal.TheVariants.{BadMessage}
-use Rattle.varint.proofs.Basics.{test, never}
+use Rattle.varint.proofs.Basics.{test, never, clash}
 use Rattle.desc.specs.Emitting.{Pen, put_number, put_where, put_label, put_tree, put_kids}
-use Rattle.desc.specs.Inner.Emission.{Emission, wrong, done, emission, told}
+use Rattle.desc.specs.Inner.Emission.{Emission, wrong, done, emission, told, put_before}
+use Rattle.desc.specs.Inner.Rows.{row_at}
 use Rattle.desc.specs.Layout.{NameSpan}
 use Rattle.desc.specs.Table.{cell, node_fits, is_branch, kids_at, closed_at, table}
 use Rattle.desc.specs.Trees.{Tree, leaf, Kids, more, kid_count}
-use Rattle.desc.proofs.TableCells.{fits_not}
+use Rattle.desc.proofs.EmitPens.{before_part}
 use Rattle.desc.proofs.TableKids.{kid_count_lem}
+use Rattle.std.specs.Bool.{then_some}
 use Rattle.std.specs.Prelude.{Ok, Err, Some, None, Option}
 
 -- what writing the children that are left does to the buffer
@@ -50,8 +52,15 @@ module _ (tx : List ℕ) (tag : ℕ) (name : NameSpan) (d : ℕ) (s : Pen) where
   first_wrong (Ok (t, e)) K h = never cc
   first_wrong (Err e) K h = refl
 
-module _ (r : ℕ → ℕ → Got (Tree NameSpan)) (tx nd : List ℕ) (tag count i m : ℕ) (s s₁ : Pen) (R : Option ℕ) (o : Pen) (less : i < count)
-    (label : s₁ ≡ put_label tx tag (cell nd m 1, cell nd m 2) (cell nd m 3) s) (is : told R o ≡ emission tx (r m tag) s₁) where
+-- the tag of a type with parts is none of a root's parent
+pub parts_tag : (tag : ℕ) {parts : Bool} → parts ≡ (eqb tag 3 || eqb tag 4) → parts ≡ true → tag ≡ 0 → ⊥
+parts_tag tag is b z = clash (sym is ∙ b) (rw z refl)
+
+module _ (r : ℕ → ℕ → Got (Tree NameSpan)) (tx nd : List ℕ) (tag count i m : ℕ) (s : Pen) (R : Option ℕ) (o : Pen) (less : i < count)
+    (part : tag ≡ 0 → ⊥) (is : told R o ≡ emission tx (r m tag) (put_before tx tag (row_at nd m) s)) where
+  told_after : told R o ≡ emission tx (r m tag) (put_label tx tag (cell nd m 1, cell nd m 2) (cell nd m 3) s)
+  told_after = is ∙ ap (emission tx (r m tag)) (before_part tx tag (row_at nd m) s part)
+
   pub turn_done : (m₂ : ℕ) → R ≡ Some m₂
       → kids_emission tx tag (kids_at r nd tag (count - i) m) s ≡ kids_emission tx tag (kids_at r nd tag (count - (i + 1)) m₂) o
   unfolding told kids_at
@@ -59,7 +68,7 @@ module _ (r : ℕ → ℕ → Got (Tree NameSpan)) (tx nd : List ℕ) (tag count
       let e : count - i ≡ suc (count - (i + 1)) = omega arith in
       rw e
       (first_done tx tag (cell nd m 1, cell nd m 2) (cell nd m 3) s (r m tag) (kids_at r nd tag (count - (i + 1))) m₂ o
-      (ap (λ (x : Option ℕ). told x o) (sym h) ∙ is ∙ ap (emission tx (r m tag)) label))
+      (ap (λ (x : Option ℕ). told x o) (sym h) ∙ told_after))
 
   pub turn_wrong : R ≡ None → kids_emission tx tag (kids_at r nd tag (count - i) m) s ≡ wrong
   unfolding told kids_at
@@ -67,20 +76,7 @@ module _ (r : ℕ → ℕ → Got (Tree NameSpan)) (tx nd : List ℕ) (tag count
       let e : count - i ≡ suc (count - (i + 1)) = omega arith in
       rw e
       (first_wrong tx tag (cell nd m 1, cell nd m 2) (cell nd m 3) s (r m tag) (kids_at r nd tag (count - (i + 1)))
-      (ap (λ (x : Option ℕ). told x o) (sym h) ∙ is ∙ ap (emission tx (r m tag)) label))
-
--- a child that is not there
-table_outside : (d : ℕ) (nd : List ℕ) (m tag : ℕ) → length nd / 7 ≤ m → table d nd m tag ≡ Err (BadMessage Layout)
-unfolding table
-table_outside zero nd m tag h = refl
-table_outside (suc d) nd m tag h = rw (← fits_not nd m tag h)
-
-pub turn_outside : (d : ℕ) (tx nd : List ℕ) (tag count i m : ℕ) (s : Pen) → i < count → length nd / 7 ≤ m
-    → kids_emission tx tag (kids_at (table d nd) nd tag (count - i) m) s ≡ wrong
-unfolding kids_at kids_emission
-turn_outside d tx nd tag count i m s less h =
-    let e : count - i ≡ suc (count - (i + 1)) = omega arith in
-    rw (e, table_outside d nd m tag h)
+      (ap (λ (x : Option ℕ). told x o) (sym h) ∙ told_after))
 
 deeper : (d : ℕ) (nd : List ℕ) (n parent : ℕ) → (d ≡ 0 → ⊥)
     → table d nd n parent
@@ -116,42 +112,45 @@ kids_closed tx tag end count (Err x) m s s₁ s₂ c h q w = never cc
 
 -- The ways out of a node
 
-module _ (nd : List ℕ) (d n parent : ℕ) (z : d ≡ 0 → ⊥) {fits : Bool} (test : fits ≡ node_fits nd n parent) where
-  node_unfit : fits ≡ false → table d nd n parent ≡ Err (BadMessage Layout)
-  node_unfit f = rw (deeper d nd n parent z, ← test, f)
+module _ (nd : List ℕ) (d n parent : ℕ) (z : d ≡ 0 → ⊥) where
+  node_unfit : node_fits nd n parent ≡ false → table d nd n parent ≡ Err (BadMessage Layout)
+  node_unfit f = rw (deeper d nd n parent z, f)
 
-  module _ (f : fits ≡ true) {parts : Bool} (test₂ : parts ≡ (eqb (cell nd n 0) 3 || eqb (cell nd n 0) 4)) where
-    pub node_leaf : parts ≡ false → table d nd n parent ≡ Ok ((leaf (cell nd n 0) (cell nd n 4)), n + 1)
+  -- by the numbers of a node that fits
+  module _ (f : node_fits nd n parent ≡ true) (row : List ℕ) (is : row ≡ row_at nd n) {parts : Bool} (test : parts ≡ (eqb (get_or row 0 0) 3 || eqb (get_or row 0 0) 4)) where
+    parts_of : parts ≡ is_branch nd n
     unfolding is_branch
-    node_leaf b = rw (deeper d nd n parent z, ← test, f, ← test₂, b)
+    parts_of = rw is at test
+
+    pub node_leaf : parts ≡ false → table d nd n parent ≡ Ok ((leaf (get_or row 0 0) (get_or row 4 0)), n + 1)
+    node_leaf b = rw (is, deeper d nd n parent z, f, ← parts_of, b) refl
 
     -- a type with parts: what is left is to read them, and to compare the end
     pub node_branch : parts ≡ true
-        → table d nd n parent ≡ closed_at (cell nd n 0) (cell nd n 6) (kids_at (table (d - 1) nd) nd (cell nd n 0) (cell nd n 5) (n + 1))
-    unfolding is_branch
-    node_branch b = rw (deeper d nd n parent z, ← test, f, ← test₂, b)
+        → table d nd n parent ≡ closed_at (get_or row 0 0) (get_or row 6 0) (kids_at (table (d - 1) nd) nd (get_or row 0 0) (get_or row 5 0) (n + 1))
+    node_branch b = rw (is, deeper d nd n parent z, f, ← parts_of, b) refl
 
 module _ (tx nd : List ℕ) (d n parent : ℕ) (s o : Pen) where
   pub emit_deep : d ≡ 0 → told None o ≡ emission tx (table d nd n parent) s
   unfolding told emission table
   emit_deep z = rw z
 
-  pub emit_unfit : {fits : Bool} → (d ≡ 0 → ⊥) → fits ≡ node_fits nd n parent → fits ≡ false → told None o ≡ emission tx (table d nd n parent) s
+  pub emit_unfit : (d ≡ 0 → ⊥) → node_fits nd n parent ≡ false → told None o ≡ emission tx (table d nd n parent) s
   unfolding told emission
-  emit_unfit z test f = rw (node_unfit nd d n parent z test f)
+  emit_unfit z f = rw (node_unfit nd d n parent z f)
 
   pub emit_leaf : (tag p : ℕ) → table d nd n parent ≡ Ok (leaf tag p, n + 1)
       → o ≡ put_where (eqb tag 2) p (put_number tag s) → told (Some (n + 1)) o ≡ emission tx (table d nd n parent) s
   unfolding told emission put_tree
   emit_leaf tag p is w = rw (is, ← w)
 
-  module _ (tag count : ℕ) (is : table d nd n parent ≡ closed_at tag (cell nd n 6) (kids_at (table (d - 1) nd) nd tag count (n + 1))) (s₁ : Pen) where
+  module _ (tag count end : ℕ) (is : table d nd n parent ≡ closed_at tag end (kids_at (table (d - 1) nd) nd tag count (n + 1))) (s₁ : Pen) where
     abbrev kids : Got (Kids NameSpan)
     kids = kids_at (table (d - 1) nd) nd tag count (n + 1)
 
     pub emit_stopped : kids_emission tx tag kids s₁ ≡ wrong → told None o ≡ emission tx (table d nd n parent) s
     unfolding told
-    emit_stopped h = rw is (kids_wrong tx tag (cell nd n 6) kids s s₁ h)
+    emit_stopped h = rw is (kids_wrong tx tag end kids s s₁ h)
 
     module _ (i m : ℕ) (past : count ≤ i)
         (inv : kids_emission tx tag kids s₁ ≡ kids_emission tx tag (kids_at (table (d - 1) nd) nd tag (count - i) m) o) where
@@ -159,22 +158,22 @@ module _ (tx nd : List ℕ) (d n parent : ℕ) (s o : Pen) where
       unfolding kids_emission kids_at put_kids
       ended = let e : count - i ≡ 0 = omega arith in inv ∙ rw e
 
-      emit_open : (cell nd n 6 ≡ m → ⊥) → told None o ≡ emission tx (table d nd n parent) s
+      emit_open : (end ≡ m → ⊥) → told None o ≡ emission tx (table d nd n parent) s
       unfolding told
-      emit_open q = rw is (kids_open tx tag (cell nd n 6) kids m s s₁ o ended q)
+      emit_open q = rw is (kids_open tx tag end kids m s s₁ o ended q)
 
-      emit_branch : cell nd n 6 ≡ m → s₁ ≡ put_number count (put_number tag s) → told (Some m) o ≡ emission tx (table d nd n parent) s
+      emit_branch : end ≡ m → s₁ ≡ put_number count (put_number tag s) → told (Some m) o ≡ emission tx (table d nd n parent) s
       unfolding told
       emit_branch q w =
           rw is
-          (kids_closed tx tag (cell nd n 6) count kids m s s₁ o
+          (kids_closed tx tag end count kids m s s₁ o
           (λ ks e h. kid_count_lem (table (d - 1) nd) nd tag count (n + 1) e ks h)
           ended q w)
 
       -- by the comparison of its end
-      pub emit_closed : (R : Option ℕ) → s₁ ≡ put_number count (put_number tag s) → R ≡ pick (eqb (cell nd n 6) m) (Some m) None
+      pub emit_closed : (R : Option ℕ) → s₁ ≡ put_number count (put_number tag s) → R ≡ then_some (eqb end m) m
           → told R o ≡ emission tx (table d nd n parent) s
       emit_closed R w h =
-          test (eqb (cell nd n 6) m)
-          (λ e. rw (h, e) (emit_branch (eqb-true (cell nd n 6) m e) w))
-          (λ e. rw (h, e) (emit_open (eqb-false (cell nd n 6) m e)))
+          test (eqb end m)
+          (λ e. rw (h, e) (emit_branch (eqb-true end m e) w))
+          (λ e. rw (h, e) (emit_open (eqb-false end m e)))

@@ -1,29 +1,48 @@
 -- Steps of the small writers.
-use mathlib.Core.Bool.{Bool, true, false}
-use mathlib.Core.Path.{◌≡◌}
+use mathlib.Core.Path.{◌≡◌, refl, sym, ap, ◌∙◌}
 use mathlib.Core.List.{List}
 use Prim.Native.Nat.{ℕ, ◌+◌, ◌≤◌, ◌<◌}
 use native.Mathlib.Omega.{arith}
 use lib.Dec.{eqb}
-use lib.ListN.{length, set}
+use borrow.Author.Tests.{eq-eqb, ne_eqb}
+use lib.ListN.{length, get_or, set}
 use Rattle.varint.specs.Outs.{declared}
 use Rattle.varint.proofs.PutLaws.{put_small}
 use Rattle.desc.specs.Emitting.{Pen, put_bytes, put_number, put_where, put_name, put_label}
-use Rattle.desc.specs.Table.{cell}
+use Rattle.desc.specs.Inner.Emission.{put_before, emission, told}
+use Rattle.desc.specs.Layout.{NameSpan}
+use Rattle.desc.specs.Trees.{Tree}
+use Rattle.std.specs.Prelude.{Option}
+use Rattle.varint.specs.Got.{Got}
 
-pub where_yes : (t : Bool) (v : ℕ) (s s₁ : Pen) → t ≡ true → s₁ ≡ put_number v s → s₁ ≡ put_where t v s
+-- a number that stands only at one tag
+pub where_yes : (tag k v : ℕ) (s s₁ : Pen) → tag ≡ k → s₁ ≡ put_number v s → s₁ ≡ put_where (eqb tag k) v s
 unfolding put_where
-where_yes t v s s₁ h e = rw h e
+where_yes tag k v s s₁ h e = rw (eq-eqb tag k h) e
 
-pub where_no : (t : Bool) (v : ℕ) (s : Pen) → t ≡ false → s ≡ put_where t v s
+pub where_no : (tag k v : ℕ) (s s₁ : Pen) → (tag ≡ k → ⊥) → s₁ ≡ s → s₁ ≡ put_where (eqb tag k) v s
 unfolding put_where
-where_no t v s h = rw h
+where_no tag k v s s₁ h e = rw (ne_eqb tag k h) e
 
-pub label_steps : (tx nd : List ℕ) (tag m start len d : ℕ) (s s₁ s₂ s₃ : Pen) → start ≡ cell nd m 1 → len ≡ cell nd m 2 → d ≡ cell nd m 3
-    → s₁ ≡ put_number len s → s₂ ≡ put_name tx (start, len) s₁ → s₃ ≡ put_where (eqb tag 4) d s₂
-    → s₃ ≡ put_label tx tag (cell nd m 1, cell nd m 2) (cell nd m 3) s
-unfolding put_label
-label_steps tx nd tag m start len d s s₁ s₂ s₃ e₁ e₂ e₃ p q r = rw (r, q, p, e₁, e₂, e₃)
+module _ (tx : List ℕ) (parent : ℕ) (row : List ℕ) (s : Pen) where
+  pub before_root : parent ≡ 0 → s ≡ put_before tx parent row s
+  unfolding put_before
+  before_root h = rw (eq-eqb parent 0 h) refl
+
+  pub before_part : (parent ≡ 0 → ⊥) → put_before tx parent row s ≡ put_label tx parent (get_or row 1 0, get_or row 2 0) (get_or row 3 0) s
+  unfolding put_before
+  before_part h = rw (ne_eqb parent 0 h) refl
+
+  pub label_steps : (s₁ s₂ s₃ : Pen) → (parent ≡ 0 → ⊥) → s₁ ≡ put_number (get_or row 2 0) s → s₂ ≡ put_name tx (get_or row 1 0, get_or row 2 0) s₁
+      → s₃ ≡ put_where (eqb parent 4) (get_or row 3 0) s₂ → s₃ ≡ put_before tx parent row s
+  unfolding put_label
+  label_steps s₁ s₂ s₃ z p q r = rw (r, q, p, before_part z) refl
+
+-- what writing a root tells, by the variant of its answer
+pub at_root : (tx row : List ℕ) (D : Got (Tree NameSpan)) (s o : Pen) {R answer : Option ℕ} → told R o ≡ emission tx D (put_before tx 0 row s) → R ≡ answer
+    → told answer o ≡ emission tx D s
+unfolding put_before
+at_root tx row D s o h e = ap (λ (x : Option ℕ). told x o) (sym e) ∙ h
 
 -- a number that has one byte
 pub one_byte : (v at : ℕ) (d o : List ℕ) → v < 128 → at < length d → length d ≤ 18446744073709551615 → o ≡ set d at v

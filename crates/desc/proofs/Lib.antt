@@ -23,11 +23,11 @@ pub mod KidLaws
 pub mod LayoutLaws
 pub mod MeasureLaws
 pub mod NodeFits
+pub mod NodeRows
 pub mod OnePrint
 pub mod Outcomes
 pub mod ReadInduction
 pub mod ReadPrint
-pub mod RowLaws
 pub mod SkimLaws
 pub mod TableCells
 pub mod TableKids

@@ -1,26 +1,35 @@
--- Tests of one node, their parts in another order, and of a name.
-use mathlib.Core.Bool.{Bool, true, false, ◌&&◌, ◌||◌}
-use mathlib.Core.Path.{◌≡◌, refl, sym, ◌∙◌}
-use mathlib.Core.Logic.{⊎_elim}
+-- Tests of one node, and of a name.
+use mathlib.Core.Bool.{Bool, true, false, not, ◌&&◌, ◌||◌}
+use mathlib.Core.Path.{◌≡◌, refl, sym}
 use mathlib.Core.List.{List}
-use Prim.Native.Nat.{ℕ, ◌+◌, ◌/◌, ◌≤◌, ◌<◌}
+use Prim.Native.Nat.{ℕ, zero, suc, ◌+◌, ◌/◌, ◌≤◌, ◌<◌}
+use Prim.Native.Nat.compare
 use lib.Dec.{leb, eqb}
-use lib.ListN.{length}
+use lib.ListN.{length, get_or}
 use borrow.Author.Tests.{lt-ltb, le-ltb}
 use Rattle.varint.specs.Choice.{pick}
 use Rattle.varint.specs.Gathering.{name_held, text_held}
 use Rattle.varint.specs.Utf8.{utf8_at}
 use Rattle.varint.specs.declared.error.Fault.TheVariants.{Texts}
 use Rattle.varint.specs.declared.error.Refusal.TheVariants.{BadMessage, BadString}
-use Rattle.varint.proofs.Basics.{below, clash}
 use Rattle.varint.proofs.Utf8Laws.{utf8_at_in}
 use Rattle.desc.specs.Emitting.{verdict}
 use Rattle.desc.specs.Table.{cell, root_name, discriminant_fits, predicate_fits, is_branch, leaf_fits, node_fits}
+use Rattle.desc.specs.Inner.Rows.{row_at}
+use Rattle.std.proofs.Common.{Bor}
+use Rattle.std.specs.Bool.{then_some}
+use Rattle.std.specs.Option.{MatchOption}
 use Rattle.std.specs.Prelude.{Ok, Err}
 
-and_two : (a b c d : Bool) → (a && (b && c) && d) ≡ (a && b && c && d)
-and_two true b c d = refl
-and_two false b c d = refl
+named_by : (root nameless : Bool) → (not root || nameless) ≡ pick root nameless true
+named_by true nameless = refl
+named_by false nameless = refl
+
+-- at most the greatest number of a column: within 32 bits, or 0
+at_most : (used : Bool) (v : ℕ) → leb v (pick used 0xFFFFFFFF 0) ≡ pick used (leb v 0xFFFFFFFF) (eqb v 0)
+at_most true v = refl
+at_most false zero = refl
+at_most false (suc v) = rw compare.suc-zero refl
 
 module _ (nd : List ℕ) (n parent : ℕ) where
   pub fits_not : length nd / 7 ≤ n → false ≡ node_fits nd n parent
@@ -28,24 +37,30 @@ module _ (nd : List ℕ) (n parent : ℕ) where
   fits_not h = rw (le-ltb n (length nd / 7) h)
 
   -- a node that is there fits by the tests of its numbers
-  pub fits_parts : {named discriminant predicate parts : Bool} → n < length nd / 7
-      → named ≡ pick (eqb parent 0) (eqb (cell nd n 1) 0 && eqb (cell nd n 2) 0) true
-      → discriminant ≡ pick (eqb parent 4) (leb (cell nd n 3) 0xFFFFFFFF) (eqb (cell nd n 3) 0)
-      → predicate ≡ pick (eqb (cell nd n 0) 2) (leb (cell nd n 4) 0xFFFFFFFF) (eqb (cell nd n 4) 0)
-      → parts ≡ (eqb (cell nd n 0) 3 || eqb (cell nd n 0) 4)
-      → (leb (cell nd n 0) 5 && named && (discriminant && predicate) && (parts || (eqb (cell nd n 5) 0 && eqb (cell nd n 6) (n + 1)))) ≡ node_fits nd n parent
+  pub fits_parts : (row : List ℕ) {most most₂ : ℕ} {parts : Bool} → row ≡ row_at nd n → n < length nd / 7
+      → most ≡ pick (eqb parent 4) 0xFFFFFFFF 0 → most₂ ≡ pick (eqb (get_or row 0 0) 2) 0xFFFFFFFF 0 → parts ≡ (eqb (get_or row 0 0) 3 || eqb (get_or row 0 0) 4)
+      → (leb (get_or row 0 0) 5 && (not (eqb parent 0) || (eqb (get_or row 1 0) 0 && eqb (get_or row 2 0) 0)) && leb (get_or row 3 0) most && leb (get_or row 4 0) most₂
+      && (parts || (eqb (get_or row 5 0) 0 && eqb (get_or row 6 0) (n + 1))))
+      ≡ node_fits nd n parent
   unfolding node_fits root_name discriminant_fits predicate_fits is_branch leaf_fits
-  fits_parts h p q r t =
-      rw (p, q, r, t, lt-ltb n (length nd / 7) h)
-      (and_two
-      (leb (cell nd n 0) 5 && root_name nd n parent)
-      (discriminant_fits nd n parent)
-      (predicate_fits nd n)
-      (is_branch nd n || leaf_fits nd n))
+  fits_parts row is h p q r =
+      rw (
+        p,
+        q,
+        r,
+        is,
+        lt-ltb n (length nd / 7) h,
+        named_by (eqb parent 0) (eqb (cell nd n 1) 0 && eqb (cell nd n 2) 0),
+        at_most (eqb parent 4) (cell nd n 3),
+        at_most (eqb (cell nd n 0) 2) (cell nd n 4),
+      )
+      refl
 
-  -- a node that fits is in the table
-  pub fits_inside : {t : Bool} → t ≡ node_fits nd n parent → t ≡ true → n < length nd / 7
-  fits_inside test is = ⊎_elim (λ (h : n < length nd / 7). h) (λ (h : length nd / 7 ≤ n). clash (sym test ∙ is) (sym (fits_not h))) (below n (length nd / 7))
+-- a row is given where it fits
+pub given : (t : Bool) (row : Bor (List ℕ)) {fits : Bool} {numbers : List ℕ} → t ≡ fits → row.now ≡ numbers
+    → MatchOption (then_some t row) (fits ≡ false) (λ x. (fits ≡ true) × (x.now ≡ numbers))
+given true row e h = (sym e, h)
+given false row e h = sym e
 
 module _ (tx : List ℕ) (start len : ℕ) where
   pub name_past : length tx < start + len → Err (BadMessage Texts) ≡ verdict (name_held tx start len)

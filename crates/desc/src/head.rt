@@ -1,5 +1,6 @@
 // What stands at the start of a descriptor, and before each child of one. All is inlined, so that what was read stays in registers: else types take a
-// quarter more time.
+// quarter more time. Readers are lent all bytes with a place beside them: the place past what was read is an answer too, and one may lie past the end; of
+// `&s[at..]` each caller would owe that it does not.
 ghost use Rattle.std.specs.Prelude.{◌≡◌, ◌≤◌, length};
 ghost use Rattle.varint.specs.Leb128.{get_u64};
 ghost use Rattle.desc.specs.Reading.{fact_on, count_on, head_at, name_by, discriminant_on, label_at};
@@ -18,14 +19,16 @@ pub(crate) const TAG_UNION: u64 = 4;
 
 pub(crate) const TAG_BYTES: u64 = 5;
 
-// A type without parts, by its tag and a fact's predicate; or one with parts, by its tag and how many.
+// A type without parts, by its tag and a fact's predicate; or one with parts, by its tag and how many. Where there is no predicate it is 0, and no `None`:
+// it is stored in a column of the node table, which has 0 there, so that an Option would be made to be unmade.
 #[derive(Clone, Copy)]
 pub enum Head {
     Leaf { tag: u64, predicate: u64 },
     Branch { tag: u64, count: u64 },
 }
 
-// A child's name lies in the bytes, or, of a node that is written, in the text. A record's field has discriminant 0.
+// A child's name lies in the bytes, or, of a node that is written, in the text. A record's field has discriminant 0, and no `None`, for the same
+// reason.
 #[derive(Clone, Copy)]
 pub struct Label {
     pub name: Span,
@@ -62,26 +65,20 @@ fn read_count(s: &[u8], at: usize, tag: u64, p: usize) -> Got<Head>
     Ok((Head::Branch { tag, count }, next))
 }
 
-// The start of the descriptor at place `at`.
+// The start of the descriptor at place `at`. The last test is a guard: with `0..=TAG_BYTES` the cases are a table of jumps, and a type of 833 nodes takes
+// 45 µs and not 40.
 #[inline(always)]
 #[tactic(auto, unfolding(crate::specs::Reading::head_at))]
 pub(crate) fn read_head(s: &[u8], at: usize) -> Got<Head>
     ensures { result ≡ head_at s.now at }
 {
     let (tag, next) = get_u64(s, at)?;
-    if tag == TAG_FACT {
-        return read_fact(s, next);
+    match tag {
+        TAG_FACT => read_fact(s, next),
+        TAG_RECORD | TAG_UNION => read_count(s, at, tag, next),
+        _ if TAG_BYTES < tag => Err(Refusal::UnknownRefForm(tag)),
+        _ => Ok((Head::Leaf { tag, predicate: 0 }, next)),
     }
-    if tag == TAG_RECORD {
-        return read_count(s, at, tag, next);
-    }
-    if tag == TAG_UNION {
-        return read_count(s, at, tag, next);
-    }
-    if TAG_BYTES < tag {
-        return Err(Refusal::UnknownRefForm(tag));
-    }
-    Ok((Head::Leaf { tag, predicate: 0 }, next))
 }
 
 // A name, its bytes checked or not.
@@ -90,9 +87,10 @@ fn read_name(s: &[u8], at: usize, check: bool) -> Got<Span>
     ensures { result ≡ name_by check s.now at }
 {
     if check {
-        return take_name(s, at);
+        take_name(s, at)
+    } else {
+        skim_str(s, at)
     }
-    skim_str(s, at)
 }
 
 // An alternative's discriminant has 32 bits.

@@ -1,7 +1,12 @@
 // Type descriptors (desc.rs) and the node table that they are laid out as in lent memory.
 //
 // A descriptor is read twice: once to see whether it is one and how much memory it takes, and once to store it. The first reading checks
-// its names, the second only finds them. Both are one function, which is lent two small buffers of its own the first time.
+// its names, the second only finds them. Both are one function, which is lent two empty buffers the first time. Whoever reads one within other bytes has it
+// measured (`measure_desc`), and then measured and stored (`fill_desc`).
+//
+// Bytes, text and nodes have a place beside them, and are not lent from that place on: the place is the answer's too, and one in text or nodes goes on past
+// the end, where nothing is stored; of `&s[at..]` each caller would owe that the place is inside. Public functions are lent text, rows and nodes one by one, as C
+// lends them and as messages have them.
 #![tactic(auto)]
 
 mod head;
@@ -38,6 +43,14 @@ const ROOT: Label = Label {
     discriminant: 0,
 };
 
+// The bytes that a descriptor is read from, how many levels it may have, and whether its names are checked or only found.
+#[derive(Clone, Copy)]
+struct Source<'a> {
+    s: &'a [u8],
+    limit: u64,
+    check: bool,
+}
+
 // Lent memory, and how far it is filled: the place of the next byte of text, and the number of the next node.
 #[derive(Drop)]
 struct Memory<'a> {
@@ -51,22 +64,20 @@ impl Memory<'_> {
     // Reads the descriptor at place `at`, where `depth` more levels may nest, as the next node with this label, and returns the place past it.
     fn walk(
         &mut self,
-        s: &[u8],
+        source: &Source<'_>,
         at: usize,
         depth: u64,
-        limit: u64,
-        check: bool,
         label: Label,
     ) -> Result<usize, Refusal>
         requires { self.old.t + self.old.n ≤ at }
         ensures kept { Keeps self.old self.new }
-        ensures read { Agrees (outcome (desc check limit depth s.now at) self.old.text.now self.old.t self.old.nodes.now self.old.n (label.name.start, label.name.len) label.discriminant) (length s.now) (reached result self.new) self.new.text.now self.new.nodes.now }
+        ensures read { Agrees (outcome (desc source.now.check source.now.limit depth source.now.s.now at) self.old.text.now self.old.t self.old.nodes.now self.old.n (label.name.start, label.name.len) label.discriminant) (length source.now.s.now) (reached result self.new) self.new.text.now self.new.nodes.now }
     {
         let too_deep = depth == 0;
         if too_deep {
-            return Err(Refusal::TooDeep(limit));
+            return Err(Refusal::TooDeep(source.limit));
         }
-        let (head, next) = read_head(s, at)?;
+        let (head, next) = read_head(source.s, at)?;
         let n = self.n;
         match head {
             Head::Leaf { tag, predicate } => {
@@ -78,9 +89,9 @@ impl Memory<'_> {
                 self.n = n + 1;
                 let mut past = next;
                 for _ in 0..count {
-                    let (found, body) = read_label(s, tag, past, check)?;
+                    let (found, body) = read_label(source.s, tag, past, source.check)?;
                     let from = found.name;
-                    copy_bytes(s, from.start, from.len, self.text, self.t);
+                    copy_bytes(source.s, from.start, from.len, self.text, self.t);
                     let child = Label {
                         name: Span {
                             start: self.t,
@@ -89,7 +100,7 @@ impl Memory<'_> {
                         discriminant: found.discriminant,
                     };
                     self.t += from.len;
-                    past = self.walk(s, body, depth - 1, limit, check, child)?;
+                    past = self.walk(source, body, depth - 1, child)?;
                 }
                 store_node(self.nodes, n, tag, label, 0, count, self.n);
                 Ok(past)
@@ -98,31 +109,32 @@ impl Memory<'_> {
     }
 }
 
-// Where the descriptor at place `at` ends, and how much text and how many nodes it has.
-fn measure_by(s: &[u8], at: usize, limit: u64, check: bool) -> Result<Walked, Refusal>
-    ensures { result ≡ measured (desc check limit limit s.now at) }
-{
-    let mut text = [0u8; 1];
-    let mut nodes = [0u64; 1];
-    let mut memory = Memory {
-        text: &mut text,
-        t: 0,
-        nodes: &mut nodes,
-        n: 0,
-    };
-    let next = memory.walk(s, at, limit, limit, check, ROOT)?;
-    Ok(Walked {
-        next,
-        text: memory.t,
-        nodes: memory.n,
-    })
+impl Source<'_> {
+    // What is stored of the descriptor at place `at`, told and not stored.
+    fn measure(&self, at: usize) -> Result<Walked, Refusal>
+        ensures { result ≡ measured (desc self.now.check self.now.limit self.now.limit self.now.s.now at) }
+    {
+        let mut memory = Memory {
+            text: &mut [],
+            t: 0,
+            nodes: &mut [],
+            n: 0,
+        };
+        let next = memory.walk(self, at, self.limit, ROOT)?;
+        Ok(Walked {
+            next,
+            text: memory.t,
+            nodes: memory.n,
+        })
+    }
 }
 
-// The same for whoever reads a descriptor within other bytes.
+// Where the descriptor at place `at` ends, and how much text and how many nodes it has: for whoever reads one within other bytes.
 pub fn measure_desc(s: &[u8], at: usize, limit: u64) -> Result<Walked, Refusal>
     ensures { result ≡ measured (desc true limit limit s.now at) }
 {
-    measure_by(s, at, limit, true)
+    let check = true;
+    Source { s, limit, check }.measure(at)
 }
 
 // Stores the descriptor at place `at`, which was measured before: its texts from place t of text on, its nodes from node n on. It is measured again on
@@ -138,55 +150,14 @@ pub fn fill_desc(
 ) -> Result<Walked, Refusal>
     ensures { (result ≡ measured (desc false limit limit s.now at)) × (record { text = text.new; nodes = nodes.new } ≡ fill_desc limit s.now at text.old t nodes.old n) }
 {
-    let measured = measure_by(s, at, limit, false)?;
+    let check = false;
+    let source = Source { s, limit, check };
+    let measured = source.measure(at)?;
     if t <= at && n <= at - t {
         let mut memory = Memory { text, t, nodes, n };
-        let _ = memory.walk(s, at, limit, limit, false, ROOT);
+        let _ = memory.walk(&source, at, limit, ROOT);
     }
     Ok(measured)
-}
-
-// Decodes a descriptor of at most `max` bytes and `limit` levels.
-fn decode_within(
-    payload: &[u8],
-    max: u64,
-    limit: u64,
-    text: &mut [u8],
-    rows: &mut [u64],
-    nodes: &mut [u64],
-) -> Result<usize, Refusal>
-    requires { max ≤ 4294967296 }
-    ensures { record { answer = result; text = text.new; rows = rows.new; nodes = nodes.new } ≡ decode_desc max limit payload.now text.old rows.old nodes.old }
-{
-    let length = payload.len() as u64;
-    if max < length {
-        return Err(Refusal::BlockTooLarge {
-            declared: length,
-            max,
-        });
-    }
-    let measured = measure_desc(payload, 0, limit)?;
-    let used = measured.next;
-    let t = measured.text;
-    let short = text.len() < t;
-    if short {
-        return Err(Refusal::too_small(Buffer::Text, t));
-    }
-    let numbers = measured.nodes * WIDTH;
-    if nodes.len() < numbers {
-        return Err(Refusal::too_small(Buffer::Nodes, numbers));
-    }
-    let mut memory = Memory {
-        text,
-        t: 0,
-        nodes,
-        n: 0,
-    };
-    let _ = memory.walk(payload, 0, limit, limit, false, ROOT);
-    fill_from(memory.text, t, 0);
-    fill_from(rows, 0, 0);
-    fill_from(memory.nodes, numbers, 0);
-    Ok(used)
 }
 
 // The descriptor at the start of a payload: its texts in text, its nodes in nodes, and zeros behind them; rows are cleared too.
@@ -198,5 +169,32 @@ pub fn decode_desc(
 ) -> Result<usize, Refusal>
     ensures { record { answer = result; text = text.new; rows = rows.new; nodes = nodes.new } ≡ decode_desc 67108864 64 payload.now text.old rows.old nodes.old }
 {
-    decode_within(payload, MAX_PAYLOAD, MAX_DEPTH, text, rows, nodes)
+    let length = payload.len() as u64;
+    if MAX_PAYLOAD < length {
+        return Err(Refusal::too_large(length, MAX_PAYLOAD));
+    }
+    let measured = measure_desc(payload, 0, MAX_DEPTH)?;
+    if text.len() < measured.text {
+        return Err(Refusal::too_small(Buffer::Text, measured.text));
+    }
+    let numbers = measured.nodes * WIDTH;
+    if nodes.len() < numbers {
+        return Err(Refusal::too_small(Buffer::Nodes, numbers));
+    }
+    let mut memory = Memory {
+        text,
+        t: 0,
+        nodes,
+        n: 0,
+    };
+    let source = Source {
+        s: payload,
+        limit: MAX_DEPTH,
+        check: false,
+    };
+    let _ = memory.walk(&source, 0, MAX_DEPTH, ROOT);
+    fill_from(memory.text, measured.text, 0);
+    fill_from(rows, 0, 0);
+    fill_from(memory.nodes, numbers, 0);
+    Ok(measured.next)
 }

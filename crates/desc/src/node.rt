@@ -1,8 +1,10 @@
-// A node of the table: its numbers by their columns.
-ghost use Rattle.std.specs.Prelude.{◌≡◌, ◌*◌};
+// A node of the table: its numbers by their columns. A node is told by its number beside the whole table: numbers of nodes are answers too, and one may lie
+// past the end; of `&nodes[k..]` each caller would owe that it does not.
+ghost use Rattle.std.specs.Prelude.{◌≡◌, ◌*◌, ◌/◌, ◌≤◌, ◌<◌, length, MatchOption};
 ghost use Rattle.std.proofs.lemmas.List.Edits.{sets};
 ghost use Rattle.desc.specs.Layout.{width, node_of};
 ghost use Rattle.desc.specs.Table.{cell};
+ghost use Rattle.desc.specs.Inner.Rows.{row_at};
 
 use crate::head::Label;
 use varint::store::store;
@@ -24,7 +26,8 @@ pub const COUNT: usize = 5;
 
 pub const END: usize = 6;
 
-// Stores node n.
+// Stores node n. Each number is stored by itself: of a node that the table's end cuts, what lies inside is stored, and a row (`first_chunk_mut`) would be
+// of whole nodes alone.
 pub(crate) fn store_node(
     nodes: &mut [u64],
     n: usize,
@@ -53,15 +56,14 @@ pub(crate) fn store_node(
 pub fn read_cell(nodes: &[u64], n: usize, c: usize) -> u64
     ensures { result ≡ cell nodes.now n c }
 {
-    if nodes.len() <= n {
-        return 0;
-    }
-    let k = n * WIDTH;
-    if nodes.len() <= k {
-        return 0;
-    }
-    if nodes.len() - k <= c {
-        return 0;
-    }
-    nodes[k + c]
+    let place = n.saturating_mul(WIDTH).saturating_add(c);
+    nodes.get(place).copied().unwrap_or(0)
+}
+
+// The numbers of node `n`, if it is there whole.
+#[inline(always)]
+pub(crate) fn row(nodes: &[u64], n: usize) -> Option<&[u64; WIDTH]>
+    ensures { MatchOption result (length nodes.now / width ≤ n) (λ row. (n < length nodes.now / width) × (row.now ≡ row_at nodes.now n)) }
+{
+    nodes.as_chunks::<WIDTH>().0.get(n)
 }

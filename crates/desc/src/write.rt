@@ -1,110 +1,101 @@
-// Writing descriptors: a node table and its texts back to bytes. Public functions are lent a buffer and a place in it, which may lie past the end: who writes
-// messages holds both in a writer that has steps of its own.
-ghost use Rattle.std.specs.Prelude.{true, false, ◌&&◌, ◌||◌, ◌≡◌, ◌+◌, ◌-◌, ◌/◌, ◌≤◌, ◌<◌, leb, eqb, length};
+// Writing descriptors: a node table and its texts back to bytes. Public functions take text and nodes apart: their callers hold them in structs of their own. Whoever writes within other bytes lends a buffer with a place beside it, and not the rest
+// of the buffer: past the end nothing is stored, and the place goes on, which tells how long the whole would be.
+ghost use Rattle.std.specs.Prelude.{ℕ, [], true, false, ◌&&◌, ◌||◌, ◌≡◌, ◌+◌, ◌-◌, ◌/◌, ◌≤◌, ◌<◌, leb, eqb, length, MatchOption};
 ghost use Rattle.varint.specs.Choice.{pick};
 ghost use Rattle.varint.specs.Gathering.{name_held};
-ghost use Rattle.varint.specs.Outs.{declared};
 ghost use Rattle.desc.specs.Layout.{width, start_at, len_at, discriminant_at};
 ghost use Rattle.desc.specs.Table.{cell, node_fits, table};
-ghost use Rattle.desc.specs.Emitting.{put_number, put_where, put_name, put_label, sized, put_desc, verdict, names_from};
-ghost use Rattle.desc.specs.Inner.Emission.{Keeps, Writes, pen, told, emission};
+ghost use Rattle.desc.specs.Emitting.{Pen, put_number, put_name, sized, put_desc, verdict, names_from};
+ghost use Rattle.desc.specs.Inner.Emission.{told, put_before, emission};
+ghost use Rattle.desc.specs.Inner.Rows.{row_at};
 ghost use Rattle.desc.specs.Encoding.{encode_desc};
 
 use crate::head::{TAG_BYTES, TAG_FACT, TAG_RECORD, TAG_UNION};
-use crate::node;
 use crate::node::read_cell;
+use crate::{MAX_DEPTH, MAX_PAYLOAD, node};
 use varint::error::{Buffer, Fault, Refusal};
 use varint::store::{copy_bytes, fill_from};
 use varint::text::Span;
 use varint::utf8::is_utf8;
 use varint::{MAX_U32, Written, len_u64, put_u64};
 
-// The node after the last one written, and the place after the last byte. There is none where the table is not laid out as one.
+// The node after the last one written, and the place after the last byte; `None` of it where the table is not laid out as one.
 #[derive(Clone, Copy)]
 pub struct Emitted {
     pub next: usize,
     pub place: usize,
 }
 
-// A root's name is 0, 0; a child's is no matter of the layout.
-fn root_name(parent: u64, start: u64, len: u64) -> bool
-    ensures { result ≡ pick (eqb parent 0) (eqb start 0 && eqb len 0) true }
-{
-    if parent == 0 {
-        return (start == 0) & (len == 0);
-    }
-    true
-}
+// A root's parent. It is the number 0 and no `None`: where there is a parent, its tag is only compared with a constant, and no type with parts has tag 0. An
+// Option would need a clause that the tag inside is not 0.
+const NO_PARENT: u64 = 0;
 
-// An alternative of a union has a discriminant of 32 bits, and nothing else has one.
-fn discriminant_fits(parent: u64, discriminant: u64) -> bool
-    ensures { result ≡ pick (eqb parent 4) (leb discriminant 0xFFFFFFFF) (eqb discriminant 0) }
+// The greatest number in a column that has one of 32 bits where it is used, and else 0.
+fn greatest(used: bool) -> u64
+    ensures { result ≡ pick used 0xFFFFFFFF 0 }
 {
-    let of_union = parent == TAG_UNION;
-    if of_union {
-        return discriminant <= MAX_U32;
-    }
-    discriminant == 0
-}
-
-// A fact has a predicate of 32 bits, and nothing else has one.
-fn predicate_fits(tag: u64, predicate: u64) -> bool
-    ensures { result ≡ pick (eqb tag 2) (leb predicate 0xFFFFFFFF) (eqb predicate 0) }
-{
-    if tag == TAG_FACT {
-        return predicate <= MAX_U32;
-    }
-    predicate == 0
+    if used { MAX_U32 } else { 0 }
 }
 
 // Has a type with this tag parts? Then its end is told by them.
 fn is_branch(tag: u64) -> bool
     ensures { result ≡ (eqb tag 3 || eqb tag 4) }
 {
-    (tag == TAG_RECORD) | (tag == TAG_UNION)
+    matches!(tag, TAG_RECORD | TAG_UNION)
 }
 
-// Is node `n` there, and laid out as a node may be below a parent with this tag? A type without parts has no children, and ends behind itself. The
-// node's numbers are read without a test of each, since one test says that all seven are there.
-fn node_fits(nodes: &[u64], n: usize, parent: u64) -> bool
-    ensures { result ≡ node_fits nodes.now n parent }
+// The numbers of node `n`, if it is there and laid out as a node may be below a parent with this tag. A root's name is 0, 0; a child's is no matter of the
+// layout. Only an alternative of a union has a discriminant, and only a fact a predicate. A type without parts has no children, and ends behind itself.
+#[inline(always)]
+fn fitting_row(nodes: &[u64], n: usize, parent: u64) -> Option<&[u64; node::WIDTH]>
+    ensures { MatchOption result (node_fits nodes.now n parent ≡ false) (λ row. (node_fits nodes.now n parent ≡ true) × (row.now ≡ row_at nodes.now n)) }
 {
-    if nodes.len() / node::WIDTH <= n {
-        return false;
-    }
-    let k = n * node::WIDTH;
-    let tag = nodes[k + node::TAG];
-    let named = root_name(parent, nodes[k + node::START], nodes[k + node::LEN]);
-    let valued = discriminant_fits(parent, nodes[k + node::DISCRIMINANT])
-        & predicate_fits(tag, nodes[k + node::PREDICATE]);
-    let childless = (nodes[k + node::COUNT] == 0) & (nodes[k + node::END] == (n + 1) as u64);
-    (tag <= TAG_BYTES) & named & valued & (is_branch(tag) | childless)
-}
-
-// The sum, or the greatest number where it is greater.
-pub fn plus(a: usize, b: usize) -> usize
-    ensures { result ≡ declared (a + b) }
-{
-    if b <= 0xFFFF_FFFF_FFFF_FFFF - a {
-        return a + b;
-    }
-    0xFFFF_FFFF_FFFF_FFFF
+    let row = node::row(nodes, n)?;
+    let tag = row[node::TAG];
+    let nameless = (row[node::START] == 0) & (row[node::LEN] == 0);
+    let childless = (row[node::COUNT] == 0) & (row[node::END] == (n + 1) as u64);
+    let fits = (tag <= TAG_BYTES)
+        & ((parent != NO_PARENT) | nameless)
+        & (row[node::DISCRIMINANT] <= greatest(parent == TAG_UNION))
+        & (row[node::PREDICATE] <= greatest(tag == TAG_FACT))
+        & (is_branch(tag) | childless);
+    fits.then_some(row)
 }
 
 // Stores the varint of `v` from place `at` on, as far as `out` goes, and returns the place after it.
+#[tactic(auto, unfolding(crate::specs::Emitting::put_number, crate::specs::Emitting::put_bytes))]
 pub fn put_number(out: &mut [u8], at: usize, v: u64) -> usize
     ensures { record { out = out.new; place = result } ≡ put_number v (record { out = out.old; place = at }) }
 {
-    let n = put_u64(out, at, v);
-    plus(at, n)
+    at.saturating_add(put_u64(out, at, v))
 }
 
-// Stores `len` bytes of the text, as far as they are there, and moves on by `len`.
-pub fn put_name(text: &[u8], start: usize, len: usize, out: &mut [u8], at: usize) -> usize
-    ensures { record { out = out.new; place = result } ≡ put_name text.now (start, len) (record { out = out.old; place = at }) }
+// Stores the bytes of a name in the text, as far as they are there, and moves on by its length.
+#[tactic(auto, unfolding(crate::specs::Emitting::put_name))]
+pub fn put_name(text: &[u8], name: Span, out: &mut [u8], at: usize) -> usize
+    ensures { record { out = out.new; place = result } ≡ put_name text.now (name.start, name.len) (record { out = out.old; place = at }) }
 {
-    copy_bytes(text, start, len, out, at);
-    plus(at, len)
+    copy_bytes(text, name.start, name.len, out, at);
+    at.saturating_add(name.len)
+}
+
+// Where the bytes of a tree go. Each step is inlined.
+trait Sink: Drop {
+    // What is stored, and the place of the next byte.
+    ghost pen: { Self → Pen };
+
+    // Which buffer it was lent: it stays the same.
+    ghost lent: { Self → ℕ };
+
+    // A number, as a varint.
+    fn number(&mut self, v: u64)
+        ensures kept { lent self.new ≡ lent self.old }
+        ensures written { pen self.new ≡ put_number v (pen self.old) };
+
+    // The bytes of a name in the text.
+    fn name(&mut self, text: &[u8], name: Span)
+        ensures kept { lent self.new ≡ lent self.old }
+        ensures written { pen self.new ≡ put_name text.now (name.start, name.len) (pen self.old) };
 }
 
 // A buffer, and the place in it where the next byte goes.
@@ -114,115 +105,106 @@ struct Writer<'a> {
     at: usize,
 }
 
-// A type with parts, whose last part ends before node `next`: its end is to say so.
-fn closed(end: u64, next: usize) -> Option<usize>
-    ensures { result ≡ pick (eqb end next) (Some next) None }
-{
-    if end == next as u64 {
-        return Some(next);
-    }
-    None
-}
+impl Sink for Writer<'_> {
+    ghost pen = { λ w. record { out = w.out.now; place = w.at } };
 
-// The walk over a tree, and its steps. With `STORES` false the buffer is empty, and only lengths are added up. Each step is inlined.
-impl Writer<'_> {
-    // A number that mostly has one byte, as a tag, a count, a predicate or a name's length: that takes no call.
+    ghost lent = { λ w. w.out.ghost_name };
+
+    // A tag, a count, a predicate or a name's length mostly has one byte: that takes no call.
     #[inline(always)]
-    fn small<const STORES: bool>(&mut self, v: u64)
-        requires { STORES ≡ false → length self.old.out.now ≡ 0 }
-        ensures { Writes (put_number v) self.old self.new }
-    {
-        if !STORES {
-            self.at = plus(self.at, len_u64(v));
+    #[tactic(auto, using(crate::proofs::EmitPens::one_byte))]
+    fn number(&mut self, v: u64) {
+        if v < 0x80 && self.at < self.out.len() {
+            self.out[self.at] = v as u8;
+            self.at += 1;
             return;
-        }
-        if v < 0x80 {
-            if self.at < self.out.len() {
-                self.out[self.at] = v as u8;
-                self.at += 1;
-                return;
-            }
         }
         self.at = put_number(self.out, self.at, v);
     }
 
-    // The same where it is wanted.
     #[inline(always)]
-    fn optional<const STORES: bool>(&mut self, wanted: bool, v: u64)
-        requires { STORES ≡ false → length self.old.out.now ≡ 0 }
-        ensures { Writes (put_where wanted v) self.old self.new }
-    {
-        if wanted {
-            self.small::<STORES>(v);
-        }
+    fn name(&mut self, text: &[u8], name: Span) {
+        self.at = put_name(text, name, self.out, self.at);
+    }
+}
+
+// How many bytes there would be: nothing is stored.
+#[derive(Drop)]
+struct Gauge {
+    size: usize,
+}
+
+impl Sink for Gauge {
+    ghost pen = { λ g. record { out = []; place = g.size } };
+
+    ghost lent = { λ _. 0 };
+
+    #[inline(always)]
+    #[tactic(auto, using(crate::proofs::GaugeLaws::number_gauged))]
+    fn number(&mut self, v: u64) {
+        self.size = self.size.saturating_add(len_u64(v));
     }
 
     #[inline(always)]
-    fn name<const STORES: bool>(&mut self, text: &[u8], start: usize, len: usize)
-        requires { STORES ≡ false → length self.old.out.now ≡ 0 }
-        ensures { Writes (put_name text.now (start, len)) self.old self.new }
+    #[tactic(auto, using(crate::proofs::GaugeLaws::name_gauged))]
+    fn name(&mut self, _text: &[u8], name: Span) {
+        self.size = self.size.saturating_add(name.len);
+    }
+}
+
+// A node table and the text that its names are in.
+#[derive(Clone, Copy)]
+struct Table<'a> {
+    text: &'a [u8],
+    nodes: &'a [u64],
+}
+
+impl Table<'_> {
+    // What stands before a node below a parent with this tag; before a root nothing does.
+    #[inline(always)]
+    #[tactic(auto, using(crate::proofs::EmitPens::before_root, crate::proofs::EmitPens::label_steps, crate::proofs::EmitPens::where_yes, crate::proofs::EmitPens::where_no))]
+    fn label<S: Sink>(&self, row: &[u64; node::WIDTH], parent: u64, sink: &mut S)
+        ensures kept { S.lent sink.new ≡ S.lent sink.old }
+        ensures written { S.pen sink.new ≡ put_before self.now.text.now parent row.now (S.pen sink.old) }
     {
-        if !STORES {
-            self.at = plus(self.at, len);
+        if parent == NO_PARENT {
             return;
         }
-        self.at = put_name(text, start, len, self.out, self.at);
+        let len = row[node::LEN];
+        let name = Span::of(row[node::START], len);
+        sink.number(len);
+        sink.name(self.text, name);
+        if parent == TAG_UNION {
+            sink.number(row[node::DISCRIMINANT]);
+        }
     }
 
-    // What stands before node `m`, which is there, a child of a type with this tag.
-    #[inline(always)]
-    fn label<const STORES: bool>(&mut self, text: &[u8], nodes: &[u64], m: usize, tag: u64)
-        requires is_there { m < length nodes.now / width }
-        requires stores { STORES ≡ false → length self.old.out.now ≡ 0 }
-        ensures { Writes (put_label text.now tag (cell nodes.now m start_at, cell nodes.now m len_at) (cell nodes.now m discriminant_at)) self.old self.new }
-    {
-        let k = m * node::WIDTH;
-        let start = nodes[k + node::START];
-        let len = nodes[k + node::LEN];
-        self.small::<STORES>(len);
-        self.name::<STORES>(text, start as usize, len as usize);
-        self.optional::<STORES>(tag == TAG_UNION, nodes[k + node::DISCRIMINANT]);
-    }
-
-    // Writes node `n`, which stands below a parent with this tag (0: it is a root), and all below it, where `depth` more levels may nest, and returns the
-    // node after the last one written. What lies past the end of the buffer is not stored.
-    #[tactic(auto, using(crate::proofs::TableCells::fits_inside))]
-    fn emit<const STORES: bool>(
-        &mut self,
-        text: &[u8],
-        nodes: &[u64],
-        n: usize,
-        parent: u64,
-        depth: u64,
-    ) -> Option<usize>
-        requires { STORES ≡ false → length self.old.out.now ≡ 0 }
-        ensures kept { Keeps self.old self.new }
-        ensures written { told result (pen self.new) ≡ emission text.now (table depth nodes.now n parent) (pen self.old) }
+    // Writes what stands before node `n`, which is below a parent with this tag, the node and all below it, where `depth` more levels may nest, and returns
+    // the node after the last one written.
+    fn emit<S: Sink>(&self, n: usize, parent: u64, depth: u64, sink: &mut S) -> Option<usize>
+        ensures kept { S.lent sink.new ≡ S.lent sink.old }
+        ensures written { told result (S.pen sink.new) ≡ emission self.now.text.now (table depth self.now.nodes.now n parent) (put_before self.now.text.now parent (row_at self.now.nodes.now n) (S.pen sink.old)) }
     {
         if depth == 0 {
             return None;
         }
-        if !node_fits(nodes, n, parent) {
-            return None;
-        }
-        let k = n * node::WIDTH;
-        let tag = nodes[k + node::TAG];
-        self.small::<STORES>(tag);
+        let row = fitting_row(self.nodes, n, parent)?;
+        self.label(row, parent, sink);
+        let tag = row[node::TAG];
+        sink.number(tag);
         if !is_branch(tag) {
-            self.optional::<STORES>(tag == TAG_FACT, nodes[k + node::PREDICATE]);
+            if tag == TAG_FACT {
+                sink.number(row[node::PREDICATE]);
+            }
             return Some(n + 1);
         }
-        let count = nodes[k + node::COUNT];
-        self.small::<STORES>(count);
+        let count = row[node::COUNT];
+        sink.number(count);
         let mut next = n + 1;
         for _ in 0..count {
-            if nodes.len() / node::WIDTH <= next {
-                return None;
-            }
-            self.label::<STORES>(text, nodes, next, tag);
-            next = self.emit::<STORES>(text, nodes, next, tag, depth - 1)?;
+            next = self.emit(next, tag, depth - 1, sink)?;
         }
-        closed(nodes[k + node::END], next)
+        (row[node::END] == next as u64).then_some(next)
     }
 }
 
@@ -231,15 +213,10 @@ impl Writer<'_> {
 pub fn size_desc(nodes: &[u64], n: usize, limit: u64) -> Option<Emitted>
     ensures { result ≡ sized (table limit nodes.now n 0) }
 {
-    let mut writer = Writer {
-        out: &mut [],
-        at: 0,
-    };
-    let next = writer.emit::<false>(&[], nodes, n, 0, limit)?;
-    Some(Emitted {
-        next,
-        place: writer.at,
-    })
+    let mut gauge = Gauge { size: 0 };
+    let next = Table { text: &[], nodes }.emit(n, NO_PARENT, limit, &mut gauge)?;
+    let place = gauge.size;
+    Some(Emitted { next, place })
 }
 
 // Writes the tree whose root is node `n` from place `at` of `out` on, as far as `out` goes: for whoever writes a descriptor within other bytes. Of
@@ -258,48 +235,38 @@ pub fn put_desc(
     if out.len() <= at {
         return Some(Emitted {
             next,
-            place: plus(at, place),
+            place: at.saturating_add(place),
         });
     }
     let mut writer = Writer { out, at };
-    let next = writer.emit::<true>(text, nodes, n, 0, limit)?;
+    let next = Table { text, nodes }.emit(n, NO_PARENT, limit, &mut writer)?;
     Some(Emitted {
         next,
         place: writer.at,
     })
 }
 
-// Is the name of `len` bytes from place `start` on in the text, and is it UTF-8?
-pub fn check_name(text: &[u8], start: usize, len: usize) -> Result<(), Refusal>
-    ensures { result ≡ verdict (name_held text.now start len) }
+// Is the name in the text, and is it UTF-8?
+pub fn check_name(text: &[u8], name: Span) -> Result<(), Refusal>
+    ensures { result ≡ verdict (name_held text.now name.start name.len) }
 {
-    if text.len() < start {
+    if name.is_past(text) {
         return Err(Refusal::BadMessage(Fault::Texts));
     }
-    if text.len() - start < len {
-        return Err(Refusal::BadMessage(Fault::Texts));
+    if !is_utf8(text, name.start, name.len) {
+        return Err(Refusal::BadString);
     }
-    if is_utf8(text, start, len) {
-        return Ok(());
-    }
-    Err(Refusal::BadString)
+    Ok(())
 }
 
-// Where the name of node `m` stands; a number that the table lacks counts as 0. Of a node that is there whole, no number needs a test of its own.
+// Where the name of node `m` stands; a number that the table lacks counts as 0.
 fn read_span(nodes: &[u64], m: usize) -> Span
     ensures { (result.start ≡ cell nodes.now m start_at) × (result.len ≡ cell nodes.now m len_at) }
 {
-    if nodes.len() / node::WIDTH <= m {
-        return Span {
-            start: read_cell(nodes, m, node::START) as usize,
-            len: read_cell(nodes, m, node::LEN) as usize,
-        };
-    }
-    let k = m * node::WIDTH;
-    Span {
-        start: nodes[k + node::START] as usize,
-        len: nodes[k + node::LEN] as usize,
-    }
+    Span::of(
+        read_cell(nodes, m, node::START),
+        read_cell(nodes, m, node::LEN),
+    )
 }
 
 // The names of the nodes from `from` to before `end`: nodes stand in reading order, and so do their names.
@@ -307,39 +274,28 @@ pub fn check_names(text: &[u8], nodes: &[u64], from: usize, end: usize) -> Resul
     ensures { result ≡ names_from text.now nodes.now from (end - from) }
 {
     for m in from..end {
-        let name = read_span(nodes, m);
-        check_name(text, name.start, name.len)?;
+        check_name(text, read_span(nodes, m))?;
     }
     Ok(())
-}
-
-// A length of 2^64−1 may stand for a greater one, and is over any `max` there is.
-fn encode_within(text: &[u8], nodes: &[u64], max: u64, limit: u64, out: &mut [u8]) -> Written
-    requires { max ≤ 4294967296 }
-    ensures { record { answer = result; out = out.new } ≡ encode_desc max limit text.now nodes.now out.old }
-{
-    let Some(Emitted { next, place }) = size_desc(nodes, 0, limit) else {
-        return Err(Refusal::BadMessage(Fault::Layout));
-    };
-    check_names(text, nodes, 1, next)?;
-    if max < place as u64 {
-        return Err(Refusal::BlockTooLarge {
-            declared: place as u64,
-            max,
-        });
-    }
-    if out.len() < place {
-        return Err(Refusal::too_small(Buffer::Out, place));
-    }
-    let mut writer = Writer { out, at: 0 };
-    let _ = writer.emit::<true>(text, nodes, 0, 0, limit);
-    fill_from(writer.out, place, 0);
-    Ok(place)
 }
 
 // Writes the descriptor that a node table and its texts make, and zeros after it; or a refusal, and nothing is written.
 pub fn encode_desc(text: &[u8], nodes: &[u64], out: &mut [u8]) -> Written
     ensures { record { answer = result; out = out.new } ≡ encode_desc 67108864 64 text.now nodes.now out.old }
 {
-    encode_within(text, nodes, crate::MAX_PAYLOAD, crate::MAX_DEPTH, out)
+    let Some(Emitted { next, place }) = size_desc(nodes, 0, MAX_DEPTH) else {
+        return Err(Refusal::BadMessage(Fault::Layout));
+    };
+    check_names(text, nodes, 1, next)?;
+    // A length of 2^64−1 may stand for a greater one, and is over the maximum.
+    if MAX_PAYLOAD < place as u64 {
+        return Err(Refusal::too_large(place as u64, MAX_PAYLOAD));
+    }
+    if out.len() < place {
+        return Err(Refusal::too_small(Buffer::Out, place));
+    }
+    let mut writer = Writer { out, at: 0 };
+    let _ = Table { text, nodes }.emit(0, NO_PARENT, MAX_DEPTH, &mut writer);
+    fill_from(writer.out, place, 0);
+    Ok(place)
 }

@@ -17,6 +17,10 @@ pub pick_both : {A : Type 0} (P : A → Type 0) (t : Bool) {a b : A} → P a →
 pick_both P true h k = h
 pick_both P false h k = k
 
+pub pick_two : {A : Type 0} (P : A → A → Type 0) (c : Bool) {a b a' b' : A} → P a a' → P b b' → P (pick c a b) (pick c a' b')
+pick_two P true x y = x
+pick_two P false x y = y
+
 -- the same, with what the test says
 pub pick_cases : {A : Type 0} (P : A → Type 0) (t : Bool) {a b : A} → (t ≡ true → P a) → (t ≡ false → P b) → P (pick t a b)
 pick_cases P true h k = h refl

@@ -9,7 +9,7 @@ use lib.Arith.{mod-mul}
 use lib.Dec.{ltb, lit<}
 use lib.ListN.{length, drop, length-append, length-drop}
 use lib.Seq.{length-take-le}
-use borrow.Author.Tests.{le-ltb, ltb-true, ltb-false}
+use borrow.Author.Tests.{le-ltb, ltb-false}
 use Rattle.varint.specs.Fixed.{le, put_le, get_le}
 use Rattle.varint.specs.RoundTrips.{Bytes}
 use Rattle.varint.specs.Stores.{part}
@@ -114,15 +114,6 @@ get_le_got w s at {b} {q} e = test (ltb (length s - at) w) (λ t. no_got (rw t a
 pub get_le_bad : (w : ℕ) (s : List ℕ) (at : ℕ) {r : Refusal} → taken w s at ≡ Err r → get_le w s at ≡ Err r
 unfolding get_le
 get_le_bad w s at {r} e = test (ltb (length s - at) w) (λ t. let k : UnexpectedEof ≡ r = bad_of (rw t at e) in rw (t, k)) (λ t. no_got (sym (rw t at e)))
-
--- only a list that is too short is refused
-pub get_le_refused : (w : ℕ) (s : List ℕ) (at : ℕ) (r : Refusal) → get_le w s at ≡ Err r → length s - at < w
-unfolding get_le
-get_le_refused w s at r e =
-    pick_cases (λ (x : Got ℕ). x ≡ Err r → length s - at < w) (ltb (length s - at) w)
-    (λ t f. ltb-true (length s - at) w t)
-    (λ _ f. apart (sym f))
-    e
 
 pub get_le_ends : (w : ℕ) (s : List ℕ) (at n next : ℕ) → at ≤ length s → get_le w s at ≡ Ok (n, next)
     → (next ≡ at + w) × (next ≤ length s)

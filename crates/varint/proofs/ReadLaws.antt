@@ -1,19 +1,19 @@
 -- Laws of reading a varint: a byte of each kind, sizes, and where a varint ends.
 use mathlib.Core.Bool.{true, false, ◌&&◌, and-false}
 use mathlib.Core.Logic.{⊎_elim}
-use mathlib.Core.Path.{◌≡◌, refl, ◌∙◌, ap}
-use mathlib.Core.List.{List, [], ◌∷◌}
+use mathlib.Core.Path.{◌≡◌, refl, sym, ◌∙◌, ap}
+use mathlib.Core.List.{List, [], ◌∷◌, ◌++◌}
 use Prim.Native.Nat.{ℕ, suc, ◌+◌, ◌-◌, ◌*◌, ◌%◌, ◌^◌, ◌≤◌, ◌<◌}
-use native.Mathlib.Nat.{pow-le-pow_right, pow-suc, suc-mul, mul-le-mul_right}
+use native.Mathlib.Nat.{zero-add, pow-le-pow_right, pow-suc, suc-mul, mul-le-mul_right}
 use native.Mathlib.Numerals.{add-one}
 use native.Mathlib.Omega.{arith}
 use lib.Dec.{ltb, eqb, lit<}
-use lib.ListN.{length, get_or, drop, drop_of_length-le, length-drop}
+use lib.ListN.{length, get_or, take, drop, drop_of_length-le, length-drop, take-append-drop}
 use lib.Seq.{drop-cons}
 use borrow.Author.Tests.{lt-ltb, le-ltb, ne_eqb, ltb-true, eqb-true}
 use Rattle.varint.specs.Leb128.{read_from, get_u64}
 use Rattle.varint.specs.declared.error.Refusal.TheVariants.{UnexpectedEof, VarintOverflow, VarintNotMinimal}
-use Rattle.varint.proofs.Basics.{pick_same, pick_both, both, below}
+use Rattle.varint.proofs.Basics.{pick_same, pick_both, pick_two, both, below}
 use Rattle.std.specs.Prelude.{Ok, Err}
 use Rattle.varint.specs.Got.{Got}
 
@@ -142,6 +142,31 @@ read_ends (b ∷ s) p lo i v h =
     let ih : P (read_from s (p + 1) (i + 1) (v + b % 128 * 128 ^ i)) = rw e at (read_ends s (p + 1) lo (i + 1) (v + b % 128 * 128 ^ i) (omega arith)) in
     pick_both P (eqb i 9 && ltb 1 (b % 128)) tt
     (pick_both P (ltb b 128) (pick_both P (ltb 0 i && eqb b 0) tt (omega arith, omega arith)) (pick_both P (eqb i 9) tt ih))
+
+-- the same varint further on, with more bytes behind it
+abbrev Moved : ℕ → Got ℕ → Got ℕ → Type 0
+Moved d (Ok (n, next)) y = y ≡ Ok (n, next + d)
+Moved d (Err r) y = Unit
+
+read_moved : (b r : List ℕ) (p d i v : ℕ) → Moved d (read_from b p i v) (read_from (b ++ r) (p + d) i v)
+unfolding read_from
+read_moved [] r p d i v = tt
+read_moved (b ∷ s) r p d i v =
+    let P : Got ℕ → Got ℕ → Type 0 = Moved d in
+    let e : p + 1 + d ≡ p + d + 1 = omega arith in
+    let w : ℕ = v + b % 128 * 128 ^ i in
+    let ih : P (read_from s (p + 1) (i + 1) w) (read_from (s ++ r) (p + d + 1) (i + 1) w) = rw e at (read_moved s r (p + 1) d (i + 1) w) in
+    pick_two P (eqb i 9 && ltb 1 (b % 128)) tt
+    (pick_two P (ltb b 128) (pick_two P (ltb 0 i && eqb b 0) tt (ap (λ (q : ℕ). Ok (v + b * 128 ^ i, q)) (sym e))) (pick_two P (eqb i 9) tt ih))
+
+-- a varint that is read from some bytes alone is read where they stand
+pub get_inside : (s b : List ℕ) (at m : ℕ) {n v : ℕ} → b ≡ take m (drop at s) → get_u64 b 0 ≡ Ok (v, n) → get_u64 s at ≡ Ok (v, at + n)
+unfolding get_u64
+get_inside s b at m {n} {v} e h =
+    let whole : b ++ drop m (drop at s) ≡ drop at s = rw e (take-append-drop m (drop at s)) in
+    let moved : Moved at (get_u64 b 0) (read_from (b ++ drop m (drop at s)) (0 + at) 0 0) = read_moved b (drop m (drop at s)) 0 at 0 0 in
+    let f : n + at ≡ at + n = omega arith in
+    rw (h, whole, zero-add, f) at moved
 
 pub get_ends : (s : List ℕ) (at : ℕ) → Ends at (length s) (get_u64 s at)
 unfolding get_u64 read_from

@@ -7,9 +7,10 @@ use Prim.Native.Nat.{ℕ, zero, suc, ◌+◌, ◌-◌, min, ◌≤◌, ◌<◌}
 use native.Mathlib.Omega.{arith}
 use native.Mathlib.Nat.{add-zero, zero-add, sub-zero}
 use native.Mathlib.Numerals.{add-one, sub-one}
-use lib.ListN.{length, get_or, take, drop, set, replicate, length-drop, length-set, length-replicate, drop_of_length-le}
+use lib.ListN.{length, get_or, take, drop, set, take-append-drop, replicate, length-drop, length-set, length-replicate, drop_of_length-le}
 use lib.Seq.{sets, sets-eq, length-sets, set_out, set-set, set_comm, drop-cons, take_all, take-length, take-take, take-add, take-append_seam, drop-append_seam, drop-drop, length-take-le}
 use borrow.Author.Tests.{lt-ltb, le-ltb}
+use borrow.Rule.Slice.PartMut.{mid_of, put_mid}
 use Rattle.varint.specs.Stores.{part, fill_from, clear_from, filled}
 use Rattle.varint.proofs.Basics.{below}
 
@@ -204,3 +205,29 @@ filled_steps d x h =
 pub filled_cleared : (d x : List ℕ) → length x ≤ length d → sets (clear_from d 0) 0 x ≡ filled d x
 unfolding fill_from
 filled_cleared d x h = rw (sub-zero, filled_fits d x h) (sets_zeros x (length d) h)
+
+-- Stores in what lies from a place on
+
+set_behind : (a d : List ℕ) (k v : ℕ) → set (a ++ d) (length a + k) v ≡ a ++ set d k v
+set_behind [] d k v = rw zero-add
+set_behind (b ∷ a) d k v = let e : suc (length a) + k ≡ suc (length a + k) = omega arith in rw e (ap (◌∷◌ b) (set_behind a d k v))
+
+sets_behind : (x a d : List ℕ) (k : ℕ) → sets (a ++ d) (length a + k) x ≡ a ++ sets d k x
+sets_behind [] a d k = refl
+sets_behind (v ∷ x) a d k =
+    let e : suc (length a + k) ≡ length a + suc k = omega arith in
+    rw (set_behind a d k v, e) (sets_behind x a (set d k v) (suc k))
+
+-- stores from the start of what lies from place `at` on
+pub sets_part : (x d : List ℕ) (at : ℕ) → at ≤ length d → put_mid at (length d - at) d (sets (mid_of at (length d - at) d) 0 x) ≡ sets d at x
+sets_part x d at h =
+    let l : length (drop at d) ≡ length d - at = length-drop at d in
+    let all : take (length d - at) (drop at d) ≡ drop at d = take_all (length d - at) (drop at d) (omega arith) in
+    let none : drop (length d - at) (drop at d) ≡ [] = drop_of_length-le (drop at d) {i = length d - at} (omega arith) in
+    let n : length (take at d) + 0 ≡ at = rw (add-zero, length-take-le at d h) in
+    rw (all, none, append-nil) (sym (sets_behind x (take at d) (drop at d) 0) ∙ rw (take-append-drop, n))
+
+-- what was stored there, put back
+pub sets_from : (x d : List ℕ) (at : ℕ) {part : List ℕ} → at ≤ length d → part ≡ sets (mid_of at (length d - at) d) 0 x
+    → put_mid at (length d - at) d part ≡ sets d at x
+sets_from x d at h e = rw e (sets_part x d at h)

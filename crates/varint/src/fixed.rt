@@ -22,7 +22,8 @@ fn take<const N: usize>(s: &[u8], at: usize) -> Got<[u8; N]>
     }
 }
 
-// The 4 bytes at place `at` of `s`, the least first.
+// The 4 bytes at place `at` of `s`, the least first. This and the next three are a line or two each, over what has the width as a parameter.
+#[tactic(auto, using(crate::proofs::Digits::got_le_4, crate::proofs::FixedLaws::get_le_bad))]
 pub fn get_u32_le(s: &[u8], at: usize) -> Got<u64>
     ensures { result ≡ get_le 4 s.now at }
 {
@@ -31,6 +32,7 @@ pub fn get_u32_le(s: &[u8], at: usize) -> Got<u64>
 }
 
 // The 8 bytes at place `at` of `s`, the least first.
+#[tactic(auto, using(crate::proofs::Digits::got_le_8, crate::proofs::FixedLaws::get_le_bad))]
 pub fn get_u64_le(s: &[u8], at: usize) -> Got<u64>
     ensures { result ≡ get_le 8 s.now at }
 {

@@ -51,7 +51,7 @@ pub fn get_u64(s: &[u8], at: usize) -> Got<u64>
     Ok((value, next))
 }
 
-// The varint at place `at` of `s`, whose first byte is `b` and not its last.
+// The varint at place `at` of `s`, whose first byte is `b` and not its last. The place is the answer's too, so it is no slice from there on that is read.
 #[inline(always)]
 fn get_short(s: &[u8], at: usize, b: u64) -> Got<u64>
     requires { (at < length s.now) × (b ≡ get_or s.now at 0) × (128 ≤ b) × (b < 256) }
@@ -76,8 +76,16 @@ fn get_short(s: &[u8], at: usize, b: u64) -> Got<u64>
     Ok((value, next))
 }
 
-// The varint at place `at` of `s`, of any length. The loop has a fixed count of turns, so that the compiler knows each byte's weight.
+// The varint at place `at` of `s`, of any length, by a call: it is too long for the compiler to inline it, and what is inlined everywhere stays short.
 fn get_long(s: &[u8], at: usize) -> Got<u64>
+    ensures { result ≡ get_u64 s.now at }
+{
+    get_any(s, at)
+}
+
+// The same, inlined. The loop has a fixed count of turns, so that the compiler knows each byte's weight.
+#[inline(always)]
+fn get_any(s: &[u8], at: usize) -> Got<u64>
     ensures { result ≡ get_u64 s.now at }
 {
     if s.len() <= at {
@@ -157,19 +165,20 @@ pub fn put_u64(out: &mut [u8], at: usize, value: u64) -> usize
     if out.len() <= at {
         return len_u64(value);
     }
-    if MAX_LEN <= out.len() - at {
-        return put_free(out, at, value);
+    let room = &mut out[at..];
+    if MAX_LEN <= room.len() {
+        return put_free(room, value);
     }
-    put_clipped(out, at, value)
+    put_clipped(room, value)
 }
 
-// Stores the varint of `value` where there is room for any varint.
-fn put_free(out: &mut [u8], at: usize, value: u64) -> usize
-    requires { at + 10 ≤ length out.old }
-    ensures { (result ≡ length (put_u64 value)) × (out.new ≡ sets out.old at (put_u64 value)) }
+// Stores the varint of `value` at the start of a buffer with room for any varint.
+fn put_free(out: &mut [u8], value: u64) -> usize
+    requires { 10 ≤ length out.old }
+    ensures { (result ≡ length (put_u64 value)) × (out.new ≡ sets out.old 0 (put_u64 value)) }
 {
     let mut v = value;
-    let mut p = at;
+    let mut p = 0;
     // No `for`: how many bytes there are is told by what is left of the number, and not by a range.
     while 128 <= v {
         out[p] = (v % 128 + 128) as u8;
@@ -177,25 +186,24 @@ fn put_free(out: &mut [u8], at: usize, value: u64) -> usize
         p += 1;
     }
     out[p] = v as u8;
-    p + 1 - at
+    p + 1
 }
 
-// Stores the varint of `value` from a place inside on, as far as `out` goes. `put_free` into ten bytes of its own and a copy of them was tried: where a
-// message just fits, that takes two fifths more time.
-fn put_clipped(out: &mut [u8], at: usize, value: u64) -> usize
-    requires { at < length out.old }
-    ensures { (result ≡ length (put_u64 value)) × (out.new ≡ sets out.old at (put_u64 value)) }
+// Stores the varint of `value` from the start on, as far as `out` goes. `put_free` into ten bytes of its own and a copy of them was tried: where a
+// message just fits, that takes two fifths more time. One function over how a byte is stored would be these two by a flag.
+fn put_clipped(out: &mut [u8], value: u64) -> usize
+    ensures { (result ≡ length (put_u64 value)) × (out.new ≡ sets out.old 0 (put_u64 value)) }
 {
     let mut v = value;
-    let mut p = at;
-    // No `for`, as above.
+    let mut p = 0;
+    // No `for`, as in `put_free`.
     while 128 <= v {
         store(out, p, (v % 128 + 128) as u8);
         v = v / 128;
         p += 1;
     }
     store(out, p, v as u8);
-    p + 1 - at
+    p + 1
 }
 
 // The varint of `value` alone in `out`, and zeros after it; or a refusal, and nothing is written.

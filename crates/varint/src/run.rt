@@ -5,16 +5,19 @@ ghost use Rattle.varint.specs.Runs.{end_of, values_of};
 ghost use Rattle.varint.specs.Inner.RunSteps.{Passed};
 
 use crate::error::Refusal;
-use crate::get_u64;
 use crate::store::store;
+use crate::{get_any, get_u64};
 
-// How many bytes the varint at place `at` has, where it has at most nine.
-fn skim_one(s: &[u8], at: usize) -> Option<usize>
-    requires { at + 9 ≤ length s.now }
-    ensures { IfSome result (λ n. Passed s.now at n) }
+// Varints of up to so many bytes are passed byte by byte.
+const SHORT: usize = 9;
+
+// How many of these bytes the varint at their start has, where it ends in them. By `position` the last byte is found as well, but what the bytes before it say, the
+// loop's invariant, has no place then.
+fn skim_one(bytes: &[u8; SHORT]) -> Option<usize>
+    ensures { IfSome result (λ n. Passed bytes.now n) }
 {
-    for i in 0..9 {
-        let b = s[at + i];
+    for i in 0..SHORT {
+        let b = bytes[i];
         if b < 128 {
             let padded = b == 0 && 0 < i;
             return if padded { None } else { Some(i + 1) };
@@ -39,9 +42,11 @@ pub fn skim_run(s: &[u8], at: usize, count: u64) -> Result<usize, Refusal>
 fn skim_next(s: &[u8], at: usize) -> Result<usize, Refusal>
     ensures { result ≡ end_of 1 s.now at }
 {
-    if at < s.len() && 9 <= s.len() - at {
-        if let Some(n) = skim_one(s, at) {
-            return Ok(at + n);
+    if at < s.len() {
+        if let Some(bytes) = s[at..].first_chunk::<SHORT>() {
+            if let Some(n) = skim_one(bytes) {
+                return Ok(at + n);
+            }
         }
     }
     let (_, next) = get_u64(s, at)?;
@@ -49,40 +54,15 @@ fn skim_next(s: &[u8], at: usize) -> Result<usize, Refusal>
 }
 
 // Stores the `count` varints from place `at` on in `out`, as far as it goes, and tells where they end; those before one that
-// is refused are stored. Each is read here, and not by `get_u64`, so that its value and place stay in registers: the plain loop was tried, and takes twice
-// the time. Nor is the inner loop a `for`, since it ends at a byte and not at a count.
+// is refused are stored. Each is read inline, so that its value and place stay in registers: `get_u64` takes twice the time here.
 pub fn fill_run(s: &[u8], at: usize, count: u64, out: &mut [u64]) -> Result<usize, Refusal>
     ensures { (result ≡ end_of count s.now at) × (out.new ≡ sets out.old 0 (values_of count s.now at)) }
 {
     let mut p = at;
     for r in 0..count {
-        let mut value: u64 = 0;
-        let mut unit: u64 = 1;
-        let mut i: u64 = 0;
-        loop {
-            if s.len() <= p {
-                return Err(Refusal::UnexpectedEof);
-            }
-            let b = u64::from(s[p]);
-            p += 1;
-            if b < 128 {
-                if (0 < i) & (b == 0) {
-                    return Err(Refusal::VarintNotMinimal);
-                }
-                if (i == 9) & (1 < b) {
-                    return Err(Refusal::VarintOverflow);
-                }
-                value = value + b * unit;
-                break;
-            }
-            if i == 9 {
-                return Err(Refusal::VarintOverflow);
-            }
-            value += (b - 128) * unit;
-            unit *= 128;
-            i += 1;
-        }
+        let (value, next) = get_any(s, p)?;
         store(out, r as usize, value);
+        p = next;
     }
     Ok(p)
 }

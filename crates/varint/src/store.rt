@@ -27,7 +27,7 @@ pub fn copy_bytes(src: &[u8], from: usize, len: usize, dst: &mut [u8], at: usize
     dst[at..at + n].copy_from_slice(&src[from..from + n]);
 }
 
-// Sets each element from place `at` to the end to `x`.
+// Sets each element from place `at` to the end to `x`. The library's `fill` asks more of `T`: that a clone of it can't fail.
 pub fn fill_from<T: Copy>(out: &mut [T], at: usize, x: T)
     ensures { out.new ≡ fill_from x out.old at }
 {

@@ -1,5 +1,6 @@
 // Texts and names: a length and that many bytes of UTF-8 (`get_str` of protocol.rs, `take_name` of desc.rs). The lengths are read inline, as numbers are.
-ghost use Rattle.std.specs.Prelude.{◌≡◌, ◌≤◌, length};
+// The place stands beside the slice, since it may lie past the end, as in lib.rt; and it is the answer's too.
+ghost use Rattle.std.specs.Prelude.{◌≡◌, ◌+◌, ◌≤◌, ltb, length};
 ghost use Rattle.varint.specs.Texts.{skim_on, skim_text, get_text, get_name};
 
 use crate::Got;
@@ -11,6 +12,25 @@ use crate::utf8::is_utf8;
 pub struct Span {
     pub start: usize,
     pub len: usize,
+}
+
+impl Span {
+    // The span of two numbers, as rows, nodes and C have them. It may lie anywhere.
+    pub fn of(start: u64, len: u64) -> Span
+        ensures { result ≡ record { start = start; len = len } }
+    {
+        Span {
+            start: start as usize,
+            len: len as usize,
+        }
+    }
+
+    // Does it run past the end of this text?
+    pub fn is_past(self, text: &[u8]) -> bool
+        ensures { result ≡ ltb (length text.now) (self.start + self.len) }
+    {
+        text.len() < self.start || text.len() - self.start < self.len
+    }
 }
 
 // The text whose length `n` was read and whose bytes start at `start`.
@@ -51,7 +71,7 @@ pub fn get_str(s: &[u8], at: usize) -> Got<Span>
     Err(Refusal::BadString)
 }
 
-// The name at place `at` of `s`: a text, today with no rule of its own.
+// The name at place `at` of `s`: a text, with no rule of its own.
 #[tactic(auto, unfolding(crate::specs::Texts::get_name))]
 pub fn take_name(s: &[u8], at: usize) -> Got<Span>
     ensures { result ≡ get_name s.now at }

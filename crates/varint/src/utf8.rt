@@ -1,4 +1,4 @@
-// UTF-8, as RFC 3629 has it.
+// UTF-8, as RFC 3629 has it. A text is asked for by its place and length, since it may lie past the end: of a slice of it each caller would owe that it does not.
 ghost use Rattle.std.specs.Prelude.{◌≡◌};
 ghost use Rattle.varint.specs.Utf8.{utf8, utf8_at};
 

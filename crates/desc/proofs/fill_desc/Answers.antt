@@ -9,14 +9,14 @@ use Rattle.desc.proofs.fill_desc.Goals as goal
 
 pub returns-in_err-measured : goal.returns-in_err-measured
 returns-in_err-measured c =
-    let f = sym c.measure_by.ensures ∙ c.in_err-measured.was in
+    let f = sym c.measure.ensures ∙ c.in_err-measured.was in
     let p = err_from_is_err_and c.from_residual.result c.from_residual.ensures.1 in
     rw (p.1, p.2) (sym f, fill_none c.args.text.now c.args.t c.args.nodes.now c.args.n c.args.limit c.args.s.now c.args.at _ f)
 
 pub returns-then-n-at : goal.returns-then-n-at
 returns-then-n-at c =
     let m = c.in_ok-measured.measured in
-    let f = sym c.measure_by.ensures ∙ c.in_ok-measured.was in
+    let f = sym c.measure.ensures ∙ c.in_ok-measured.was in
     let b = c.if-t-at.true in
     let d = c.if-n-at.true in
     let k = c.walk.ensures.kept in
@@ -34,4 +34,4 @@ returns-else-t-at c =
       | else-t-at-via-else-t-at w ↦ let b = w.if-t-at.false in omega arith
     ]
     in
-    (sym (sym c.measure_by.ensures ∙ c.in_ok-measured.was), fill_early c.args.text.now c.args.t c.args.nodes.now c.args.n c.args.limit c.args.s.now c.args.at h)
+    (sym (sym c.measure.ensures ∙ c.in_ok-measured.was), fill_early c.args.text.now c.args.t c.args.nodes.now c.args.n c.args.limit c.args.s.now c.args.at h)

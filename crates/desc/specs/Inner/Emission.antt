@@ -1,9 +1,9 @@
 -- Writing a node table as bytes from a place of a buffer on: the statement of the recursive writer.
-use Rattle.std.specs.Prelude.{◌≡◌, List, ℕ, length, Ok, Err, Some, None, Option}
+use Rattle.std.specs.Prelude.{List, ℕ, eqb, get_or, Ok, Err, Some, None, Option}
+use Rattle.varint.specs.Choice.{pick}
 use Rattle.varint.specs.Got.{Got}
-use Rattle.desc.specs.declared.write.Writer.{Writer}
-use Rattle.desc.specs.Emitting.{Pen, put_tree}
-use Rattle.desc.specs.Layout.{NameSpan}
+use Rattle.desc.specs.Emitting.{Pen, put_label, put_tree}
+use Rattle.desc.specs.Layout.{NameSpan, start_at, len_at, discriminant_at}
 use Rattle.desc.specs.Trees.{Tree}
 
 -- what writing leaves: the node after the last one written, and the buffer
@@ -21,14 +21,6 @@ unfoldable pub told : Option ℕ → Pen → Emission
 told (Some next) s = done next s
 told None s = wrong
 
--- where a writer stands
-abbrev pub pen : Writer → Pen
-pen w = record { out = w.out.now; place = w.at }
-
--- a writer has the buffer that it had
-abbrev pub Keeps : Writer → Writer → Type 0
-Keeps before after = (after.out.ghost_name ≡ before.out.ghost_name) × (length after.out.now ≡ length before.out.now)
-
--- and has written so
-abbrev pub Writes : (Pen → Pen) → Writer → Writer → Type 0
-Writes put before after = Keeps before after × (pen after ≡ put (pen before))
+-- What stands before a node with these numbers below a parent with this tag; before a root nothing does.
+unfoldable pub put_before : List ℕ → ℕ → List ℕ → Pen → Pen
+put_before tx parent row s = pick (eqb parent 0) s (put_label tx parent (get_or row start_at 0, get_or row len_at 0) (get_or row discriminant_at 0) s)

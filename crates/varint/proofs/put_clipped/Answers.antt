@@ -11,9 +11,6 @@ loop-v-preserved c = left_step c.loop-v.invariant c.loop-v-test.true c.store.ens
 pub overflow_add-result : goal.overflow_add-result
 overflow_add-result c = omega (arith, left_near c.loop-v.invariant c.ranges.value.fits)
 
-pub overflow_sub-result : goal.overflow_sub-result
-overflow_sub-result c = omega (arith, left_last c.loop-v.invariant c.loop-v-test.false)
-
 pub returns : goal.returns
 returns c =
     let i = c.loop-v.invariant in

@@ -18,9 +18,6 @@ bounds-out-p-2 c = omega (arith, left_near c.loop-v.invariant c.ranges.value.fit
 pub overflow_add-result : goal.overflow_add-result
 overflow_add-result c = omega (arith, left_near c.loop-v.invariant c.ranges.value.fits)
 
-pub overflow_sub-result : goal.overflow_sub-result
-overflow_sub-result c = omega (arith, left_last c.loop-v.invariant c.loop-v-test.false)
-
 pub returns : goal.returns
 returns c =
     let i = c.loop-v.invariant in

@@ -26,7 +26,7 @@ returns-then-too_deep-clause-read t c =
     let a = c.args in
     let m = a.self.now in
     let l = a.label in
-    walk_deep a.check a.limit a.depth a.s.now a.at m.text.now m.t m.nodes.now m.n (l.name.start, l.name.len) l.discriminant _ _ c.if-too_deep.true
+    walk_deep a.source.now.check a.source.now.limit a.depth a.source.now.s.now a.at m.text.now m.t m.nodes.now m.n (l.name.start, l.name.len) l.discriminant _ _ c.if-too_deep.true
 
 pub returns-in_err-head-clause-read : goal.returns-in_err-head-clause-read
 unfolding reached
@@ -36,7 +36,7 @@ returns-in_err-head-clause-read t c =
     let l = a.label in
     let p = err_from_is_err_and c.from_residual.result c.from_residual.ensures.1 in
     rw (p.1, p.2)
-    (walk_bad a.check a.limit a.depth a.s.now a.at m.text.now m.t m.nodes.now m.n (l.name.start, l.name.len) l.discriminant _ _ _ c.if-too_deep.false (sym c.read_head.ensures ∙ c.in_err-head.was))
+    (walk_bad a.source.now.check a.source.now.limit a.depth a.source.now.s.now a.at m.text.now m.t m.nodes.now m.n (l.name.start, l.name.len) l.discriminant _ _ _ c.if-too_deep.false (sym c.read_head.ensures ∙ c.in_err-head.was))
 
 pub overflow_add-n : goal.overflow_add-n
 overflow_add-n t c =
@@ -72,7 +72,7 @@ returns-in_err-found-in-Branch-clause-read t c =
     let l = c.loop in
     let p = err_from_is_err_and c.from_residual-in_err-found-in-Branch.result c.from_residual-in_err-found-in-Branch.ensures.1 in
     rw (p.1, p.2)
-    (walk_refused a.check a.limit a.depth a.s.now a.at m.text.now m.t m.nodes.now m.n (b.name.start, b.name.len) b.discriminant _ _ _ _ _ _ c.if-too_deep.false (headed c.read_head.ensures c.in_ok-head.was c.in-Branch.is)
+    (walk_refused a.source.now.check a.source.now.limit a.depth a.source.now.s.now a.at m.text.now m.t m.nodes.now m.n (b.name.start, b.name.len) b.discriminant _ _ _ _ _ _ c.if-too_deep.false (headed c.read_head.ensures c.in_ok-head.was c.in-Branch.is)
     (l.invariant.3 ∙ turn_label _ _ _ _ _ l.counter l.past l.self.t l.self.n l.self.text.now l.self.nodes.now _ c.loop-test.true (sym c.read_label.ensures ∙ c.in_err-found-in-Branch.was)))
 
 pub overflow_add-self-in-loop : goal.overflow_add-self-in-loop
@@ -107,8 +107,8 @@ returns-in_err-past-in-Branch-clause-read t c =
     let u = g.found in
     let p = err_from_is_err_and c.from_residual-in_err-past-in-Branch.result c.from_residual-in_err-past-in-Branch.ensures.1 in
     rw (p.1, p.2)
-    (walk_refused a.check a.limit a.depth a.s.now a.at m.text.now m.t m.nodes.now m.n (b.name.start, b.name.len) b.discriminant _ _ _ _ _ _ c.if-too_deep.false (headed c.read_head.ensures c.in_ok-head.was c.in-Branch.is)
-    (l.invariant.3 ∙ turn_refused (desc a.check a.limit (a.depth - 1) a.s.now) a.check a.s.now _ _ l.counter l.past u.name.start u.name.len u.discriminant g.body l.self.t l.self.n _ l.self.text.now _ _ l.self.nodes.now _ _ _ c.loop-test.true (sym c.read_label.ensures ∙ g.was) c.walk.ensures.read (ap (λ (x : Result ℕ Refusal). reached x c.walk.new.self) c.in_err-past-in-Branch.was)))
+    (walk_refused a.source.now.check a.source.now.limit a.depth a.source.now.s.now a.at m.text.now m.t m.nodes.now m.n (b.name.start, b.name.len) b.discriminant _ _ _ _ _ _ c.if-too_deep.false (headed c.read_head.ensures c.in_ok-head.was c.in-Branch.is)
+    (l.invariant.3 ∙ turn_refused (desc a.source.now.check a.source.now.limit (a.depth - 1) a.source.now.s.now) a.source.now.check a.source.now.s.now _ _ l.counter l.past u.name.start u.name.len u.discriminant g.body l.self.t l.self.n _ l.self.text.now _ _ l.self.nodes.now _ _ _ c.loop-test.true (sym c.read_label.ensures ∙ g.was) c.walk.ensures.read (ap (λ (x : Result ℕ Refusal). reached x c.walk.new.self) c.in_err-past-in-Branch.was)))
 
 pub loop-preserved : goal.loop-preserved
 unfolding reached
@@ -121,11 +121,11 @@ loop-preserved t c =
     let m = c.walk.new.self in
     let k = c.walk.ensures.kept in
     let was = ap (λ (x : Result ℕ Refusal). reached x m) n.was in
-    let f = agrees_read ((desc a.check a.limit (a.depth - 1) a.s.now) g.body) c.copy_bytes.new.dst (l.self.t + u.name.len) l.self.nodes.now l.self.n (l.self.t, u.name.len) u.discriminant _ _ _ _ n.past m.t m.n c.walk.ensures.read was in (
+    let f = agrees_read ((desc a.source.now.check a.source.now.limit (a.depth - 1) a.source.now.s.now) g.body) c.copy_bytes.new.dst (l.self.t + u.name.len) l.self.nodes.now l.self.n (l.self.t, u.name.len) u.discriminant _ _ _ _ n.past m.t m.n c.walk.ensures.read was in (
       (k.0 ∙ l.invariant.0.0, k.1 ∙ l.invariant.0.1),
       f.below,
       f.within,
-      l.invariant.3 ∙ turn (desc a.check a.limit (a.depth - 1) a.s.now) a.check a.s.now _ _ l.counter l.past u.name.start u.name.len u.discriminant g.body n.past l.self.t l.self.n m.t m.n _ l.self.text.now _ _ l.self.nodes.now _ _ c.loop-test.true (sym c.read_label.ensures ∙ g.was) c.copy_bytes.ensures c.walk.ensures.read was,
+      l.invariant.3 ∙ turn (desc a.source.now.check a.source.now.limit (a.depth - 1) a.source.now.s.now) a.source.now.check a.source.now.s.now _ _ l.counter l.past u.name.start u.name.len u.discriminant g.body n.past l.self.t l.self.n m.t m.n _ l.self.text.now _ _ l.self.nodes.now _ _ c.loop-test.true (sym c.read_label.ensures ∙ g.was) c.copy_bytes.ensures c.walk.ensures.read was,
     )
 
 pub returns-in-Leaf-clause-read : goal.returns-in-Leaf-clause-read
@@ -134,7 +134,7 @@ returns-in-Leaf-clause-read t c =
     let a = c.args in
     let m = a.self.now in
     let l = a.label in
-    walk_leaf a.check a.limit a.depth a.s.now a.at m.text.now m.t m.nodes.now m.n (l.name.start, l.name.len) l.discriminant _ _ _ _ c.if-too_deep.false (headed c.read_head.ensures c.in_ok-head.was c.in-Leaf.is) c.requires c.store_node.ensures
+    walk_leaf a.source.now.check a.source.now.limit a.depth a.source.now.s.now a.at m.text.now m.t m.nodes.now m.n (l.name.start, l.name.len) l.discriminant _ _ _ _ c.if-too_deep.false (headed c.read_head.ensures c.in_ok-head.was c.in-Leaf.is) c.requires c.store_node.ensures
 
 pub returns-after-loop-clause-read : goal.returns-after-loop-clause-read
 unfolding reached
@@ -143,4 +143,4 @@ returns-after-loop-clause-read t c =
     let m = a.self.now in
     let b = a.label in
     let l = c.loop in
-    walk_read a.check a.limit a.depth a.s.now a.at m.text.now m.t m.nodes.now m.n (b.name.start, b.name.len) b.discriminant _ _ _ _ l.past l.self.t l.self.n _ _ _ c.if-too_deep.false (headed c.read_head.ensures c.in_ok-head.was c.in-Branch.is) l.invariant.3 c.loop-test.false l.auto.counter-end l.invariant.1 l.invariant.2 c.store_node-in-Branch.ensures
+    walk_read a.source.now.check a.source.now.limit a.depth a.source.now.s.now a.at m.text.now m.t m.nodes.now m.n (b.name.start, b.name.len) b.discriminant _ _ _ _ l.past l.self.t l.self.n _ _ _ c.if-too_deep.false (headed c.read_head.ensures c.in_ok-head.was c.in-Branch.is) l.invariant.3 c.loop-test.false l.auto.counter-end l.invariant.1 l.invariant.2 c.store_node-in-Branch.ensures

@@ -13,6 +13,6 @@ abbrev pub invariant-loop : goal.invariant-loop
 invariant-loop l =
     Keeps l.initial.self l.self
     × (l.self.t + l.self.n ≤ l.past)
-    × (l.past ≤ length l.s)
-    × (outcome_kids (children (desc l.check l.limit (l.depth - 1) l.s) l.check l.s l.tag l.count l.next) 0 l.initial.self.text.now l.initial.self.t l.initial.self.nodes.now l.initial.self.n
-    ≡ outcome_kids (children (desc l.check l.limit (l.depth - 1) l.s) l.check l.s l.tag (l.count - l.counter) l.past) l.counter l.self.text.now l.self.t l.self.nodes.now l.self.n)
+    × (l.past ≤ length l.source.s.now)
+    × (outcome_kids (children (desc l.source.check l.source.limit (l.depth - 1) l.source.s.now) l.source.check l.source.s.now l.tag l.count l.next) 0 l.initial.self.text.now l.initial.self.t l.initial.self.nodes.now l.initial.self.n
+    ≡ outcome_kids (children (desc l.source.check l.source.limit (l.depth - 1) l.source.s.now) l.source.check l.source.s.now l.tag (l.count - l.counter) l.past) l.counter l.self.text.now l.self.t l.self.nodes.now l.self.n)

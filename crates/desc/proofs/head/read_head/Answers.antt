@@ -8,9 +8,3 @@ read_count-requires c =
     let i = num_inside _ _ _ _ (sym c.get_u64.ensures ∙ c.in_ok-tag.was) in
     let i₀ = i.0 in
     (omega arith, i.1)
-
-pub read_count-requires-then-tag-eq-TAG_UNION : goal.read_count-requires-then-tag-eq-TAG_UNION
-read_count-requires-then-tag-eq-TAG_UNION c =
-    let i = num_inside _ _ _ _ (sym c.get_u64.ensures ∙ c.in_ok-tag.was) in
-    let i₀ = i.0 in
-    (omega arith, i.1)

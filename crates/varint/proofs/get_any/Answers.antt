@@ -6,8 +6,8 @@ use lib.ListN.{drop}
 use Rattle.varint.specs.Leb128.{read_from}
 use Rattle.varint.proofs.ReadLaws.{tenth_zero, tenth_one, tenth_more, last_zero, last_first, last_more, read_end}
 use Rattle.varint.proofs.ByteLoop.{Going, going_start, going_fits, going_at, going_more}
-use Rattle.varint.proofs.get_long.Goals as goal
-use Rattle.varint.proofs.get_long.Goals.{then-b-eq0+else-padded, else-b-eq0}
+use Rattle.varint.proofs.get_any.Goals as goal
+use Rattle.varint.proofs.get_any.Goals.{then-b-eq0+else-padded, else-b-eq0}
 use Rattle.std.specs.Prelude.{Ok}
 
 pub loop-i-init : goal.loop-i-init

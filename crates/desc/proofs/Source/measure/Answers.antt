@@ -5,7 +5,7 @@ use Rattle.std.proofs.lemmas.Result.{err_from_is_err_and}
 use Rattle.varint.specs.declared.error.Refusal.{Refusal}
 use Rattle.desc.specs.Inner.Walking.{reached}
 use Rattle.desc.proofs.MeasureLaws.{measures}
-use Rattle.desc.proofs.measure_by.Goals as goal
+use Rattle.desc.proofs.Source.measure.Goals as goal
 
 pub returns-in_err-next : goal.returns-in_err-next
 unfolding reached
