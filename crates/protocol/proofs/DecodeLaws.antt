@@ -8,9 +8,11 @@ use native.Mathlib.Omega.{arith}
 use lib.Dec.{ltb, leb, eqb}
 use lib.ListN.{length}
 use lib.Seq.{sets}
-use borrow.Author.Tests.{eqb-true, lt-ltb, le-ltb, le-leb, lt-leb, ne_eqb}
+use borrow.Author.Tests.{eqb-true, ltb-true, ltb-false, lt-ltb, le-ltb, le-leb, lt-leb, ne_eqb}
 use Rattle.varint.specs.Got.{Got}
 use Rattle.varint.specs.Stores.{part, clear_from, filled}
+use Rattle.varint.specs.Choice.{pick}
+use Rattle.varint.specs.declared.error.Buffer.{Buffer}
 use Rattle.varint.specs.declared.error.Buffer.TheVariants.{Text, Rows, Nodes}
 use Rattle.varint.specs.declared.error.Refusal.{Refusal}
 use Rattle.varint.specs.declared.error.Refusal.TheVariants.{BlockTooLarge, TooSmall}
@@ -18,16 +20,33 @@ use Rattle.varint.proofs.Basics.{clash, both, never}
 use Rattle.varint.proofs.StoreLaws.{part_all, filled_steps}
 use Rattle.protocol.specs.Decoding.{Left, kept, fitted, settled, decode_message}
 use Rattle.protocol.specs.Laying.{Laid}
-use Rattle.protocol.specs.Inner.Loading.{outcome, laid_as, told, Reads, ReadsEntry, found_with, plainly, bare_left}
+use Rattle.protocol.specs.Inner.Loading.{room, outcome, laid_as, Sized, sized, ReadsWhole, ReadsEntry, plainly, bare_left}
 use Rattle.protocol.specs.Said.{Said, opaque, read_entry, read_message, lay}
 use Rattle.protocol.specs.declared.message.Message.{Message}
 use Rattle.protocol.specs.declared.message.Message.TheVariants as Msg
-use Rattle.protocol.specs.declared.read.Found.{Found}
-use Rattle.protocol.proofs.MessageReads.{bare_text}
+use Rattle.protocol.proofs.MessageReads.{bare_whole}
 use Rattle.protocol.proofs.MessageSkims.{entry_skims}
 use Rattle.std.specs.Prelude.{Ok, Err, Result}
 
 -- What fits in the lent memory
+
+module _ (buffer : Buffer) (lent n : ℕ) {x : Result (Unit {0}) Refusal} (is : x ≡ room buffer lent n) where
+  room_is : (b : Bool) → ltb lent n ≡ b → x ≡ pick b (Err (TooSmall buffer n)) (Ok tt)
+  room_is b e = is ∙ ap (λ (z : Bool). pick {A = Result (Unit {0}) Refusal} z (Err (TooSmall buffer n)) (Ok tt)) e
+
+  pub too_short : {e : Refusal} → x ≡ Err e → (lent < n) × (e ≡ TooSmall buffer n)
+  too_short {e} i = go (ltb lent n) refl
+    where
+      go : (b : Bool) → ltb lent n ≡ b → (lent < n) × (e ≡ TooSmall buffer n)
+      go true z = let k = sym i ∙ room_is true z in (ltb-true lent n z, cc (k))
+      go false z = let k = sym i ∙ room_is false z in never (cc (k))
+
+  pub long_enough : {u : Unit {0}} → x ≡ Ok u → n ≤ lent
+  long_enough i = go (ltb lent n) refl
+    where
+      go : (b : Bool) → ltb lent n ≡ b → n ≤ lent
+      go true z = let k = sym i ∙ room_is true z in never (cc (k))
+      go false z = ltb-false lent n z
 
 -- how many bytes of text and numbers of rows and nodes a message takes
 record Takes (l : Laid) (t r k : ℕ) : Type 0 where
@@ -84,27 +103,27 @@ record Measured (g : Got Said) (message : Message) (t r k : ℕ) : Type 0 where
   says : message ≡ (lay value).message
   takes : Takes (lay value) t r k
 
-module _ {tx rs nd tx₁ rs₁ nd₁ : List ℕ} {x : Result Found Refusal} where
-  tells : {g : Got Laid} {y : Result Found Refusal} → Reads true g tx rs nd x tx₁ rs₁ nd₁ → x ≡ y → told y tx₁ rs₁ nd₁ ≡ outcome true g tx rs nd
+module _ {tx rs nd tx₁ rs₁ nd₁ : List ℕ} {x : Result Sized Refusal} where
+  tells : {g : Got Laid} {y : Result Sized Refusal} → ReadsWhole true g tx rs nd x tx₁ rs₁ nd₁ → x ≡ y → sized y tx₁ rs₁ nd₁ ≡ outcome true g tx rs nd
   tells h i = rw (← i) h.is
 
-  first_refused : (g : Got Said) {e : Refusal} → Reads true (laid_as lay g) tx rs nd x tx₁ rs₁ nd₁ → x ≡ Err e → g ≡ Err e
-  unfolding told outcome
+  first_refused : (g : Got Said) {e : Refusal} → ReadsWhole true (laid_as lay g) tx rs nd x tx₁ rs₁ nd₁ → x ≡ Err e → g ≡ Err e
+  unfolding sized outcome
   first_refused (Err r) h i = let e = tells h i in cc (e)
   first_refused (Ok (m, q)) h i = let e = tells h i in never (cc (e))
 
-  first_read : (g : Got Said) {message : Message} {t r k : ℕ} → Reads true (laid_as lay g) tx rs nd x tx₁ rs₁ nd₁ → x ≡ Ok (found_with message t r k)
+  first_read : (g : Got Said) {message : Message} {t r k : ℕ} → ReadsWhole true (laid_as lay g) tx rs nd x tx₁ rs₁ nd₁ → x ≡ Ok (message, t, r, k)
       → Measured g message t r k
-  unfolding told outcome
+  unfolding sized outcome
   first_read (Err r) h i = let e = tells h i in never (cc (e))
   first_read (Ok (m, q)) h i =
       let e = tells h i in
       record { value = m; next = q; is = refl; says = cc (e); takes = record { text = cc (e); rows = cc (e); nodes = cc (e) } }
 
 -- the second stores what it reads
-second_read : (l : Laid) (q : ℕ) (tx rs nd : List ℕ) {tx₁ rs₁ nd₁ : List ℕ} (x : Result Found Refusal) → told x tx₁ rs₁ nd₁ ≡ outcome false (Ok (l, q)) tx rs nd
+second_read : (l : Laid) (q : ℕ) (tx rs nd : List ℕ) {tx₁ rs₁ nd₁ : List ℕ} (x : Result Sized Refusal) → sized x tx₁ rs₁ nd₁ ≡ outcome false (Ok (l, q)) tx rs nd
     → (tx₁ ≡ sets tx 0 l.piece.text) × (rs₁ ≡ sets rs 0 (l.piece.rows 0 0)) × (nd₁ ≡ sets nd 0 (l.piece.nodes 0 0))
-unfolding told outcome
+unfolding sized outcome
 second_read l q tx rs nd (Ok f) e = (cc, cc, cc)
 second_read l q tx rs nd (Err r) e = never cc
 
@@ -174,16 +193,16 @@ module _ (max limit entry : ℕ) (s tx rs nd : List ℕ) where
     unfolding decode_message read_message
     settles = rw (le-ltb max (length s) short, and-false (names entry))
 
-    once : {x : Result Message Refusal} → ReadsEntry entry s x → Reads true (laid_as lay (read_entry true limit entry s)) tx rs nd (plainly x) tx rs nd
-    once h = (bare_text true tx (laid_as lay (read_entry true limit entry s)) (h.empty limit) (h.reads limit)).is rs nd
+    once : {x : Result Message Refusal} → ReadsEntry entry s x → ReadsWhole true (laid_as lay (read_entry true limit entry s)) tx rs nd (plainly x) tx rs nd
+    once h = bare_whole true tx rs nd (laid_as lay (read_entry true limit entry s)) (h.empty limit) (h.reads limit)
 
-    module _ {tx₀ rs₀ nd₀ tx₀' rs₀' nd₀' : List ℕ} {x₁ : Result Found Refusal}
-        (first : Reads true (laid_as lay (read_entry true limit entry s)) tx₀ rs₀ nd₀ x₁ tx₀' rs₀' nd₀') where
+    module _ {tx₀ rs₀ nd₀ tx₀' rs₀' nd₀' : List ℕ} {x₁ : Result Sized Refusal}
+        (first : ReadsWhole true (laid_as lay (read_entry true limit entry s)) tx₀ rs₀ nd₀ x₁ tx₀' rs₀' nd₀') where
       pub decode_refused : {e : Refusal} → x₁ ≡ Err e → Decoded (kept e tx rs nd)
       unfolding settled
       decode_refused i = rw (← settles, first_refused (read_entry true limit entry s) first i)
 
-      module _ {message : Message} {t r k : ℕ} (i : x₁ ≡ Ok (found_with message t r k)) where
+      module _ {message : Message} {t r k : ℕ} (i : x₁ ≡ Ok (message, t, r, k)) where
         read : Measured (read_entry true limit entry s) message t r k
         read = first_read (read_entry true limit entry s) first i
 
@@ -200,8 +219,8 @@ module _ (max limit entry : ℕ) (s tx rs nd : List ℕ) where
         pub decode_short_nodes : t ≤ length tx → r ≤ length rs → length nd < k → Decoded (kept (TooSmall Nodes k) tx rs nd)
         decode_short_nodes a b h = fitted_nodes read.takes tx rs nd a b h ∙ read_fitted
 
-        pub decode_done : t ≤ length tx → r ≤ length rs → k ≤ length nd → {x₂ : Result Found Refusal} {tx₁ rs₁ nd₁ tx₂ rs₂ nd₂ : List ℕ}
-            → Reads false (laid_as lay (read_entry false limit entry s)) tx rs nd x₂ tx₁ rs₁ nd₁
+        pub decode_done : t ≤ length tx → r ≤ length rs → k ≤ length nd → {x₂ : Result Sized Refusal} {tx₁ rs₁ nd₁ tx₂ rs₂ nd₂ : List ℕ}
+            → ReadsWhole false (laid_as lay (read_entry false limit entry s)) tx rs nd x₂ tx₁ rs₁ nd₁
             → tx₂ ≡ clear_from tx₁ t → rs₂ ≡ clear_from rs₁ r → nd₂ ≡ clear_from nd₁ k
             → Decoded (record { answer = Ok message; text = tx₂; rows = rs₂; nodes = nd₂ })
         decode_done a b c {x₂ = x₂} second e f g =

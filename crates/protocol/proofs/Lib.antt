@@ -6,7 +6,6 @@ pub mod Knows
 pub mod MessageFields
 pub mod MessageReads
 pub mod MessageSkims
-pub mod PairReads
 pub mod PieceLaws
 pub mod RowEnds
 pub mod RowLoads

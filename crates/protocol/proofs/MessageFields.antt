@@ -15,19 +15,19 @@ use Rattle.varint.specs.Leb128.{get_u64}
 use Rattle.varint.specs.Stores.{part}
 use Rattle.varint.specs.Utf8.{utf8}
 use Rattle.varint.specs.declared.error.Mismatch.TheVariants as M
-use Rattle.varint.specs.declared.error.Refusal.TheVariants.{TrailingBytes}
+use Rattle.varint.specs.declared.error.Refusal.TheVariants.{TrailingBytes, BadString}
 use Rattle.varint.proofs.FixedLaws.{get_le_ends}
 use Rattle.desc.specs.Reading.{name_by}
-use Rattle.protocol.specs.Control.{read_control}
+use Rattle.protocol.specs.Control.{control}
 use Rattle.protocol.specs.Error.{read_error}
-use Rattle.protocol.specs.Fetch.{digest, pair, read_fetch}
+use Rattle.protocol.specs.Fetch.{digest, pair, fetch}
 use Rattle.protocol.specs.Fields.{text_by, error_code, control_op, flag, mode, to_end}
 use Rattle.protocol.specs.Ids.{read_ids}
-use Rattle.protocol.specs.Inner.Loading.{laid_as, lay_finished, session}
+use Rattle.protocol.specs.Inner.Loading.{laid_as, lay_finished}
 use Rattle.protocol.specs.Page.{read_page}
-use Rattle.protocol.specs.Profile.{Step, step, read_profile}
+use Rattle.protocol.specs.Profile.{Step, step, profile}
 use Rattle.protocol.specs.Reply.{Finished, created, finished, finish, reply_on, read_reply, lay_reply}
-use Rattle.protocol.specs.Startup.{Claim, claim}
+use Rattle.protocol.specs.Startup.{Claim, claim, startup}
 use Rattle.protocol.specs.Types.{Predicate, predicate, read_types}
 use Rattle.protocol.specs.Wholes.{ended}
 use Rattle.protocol.specs.declared.message.ControlOp.{ControlOp}
@@ -49,17 +49,16 @@ module _ (check : Bool) (s : List ℕ) where
   error_read h k = rw (h, k)
 
   pub control_read : {op : ControlOp} {p a n q r b m e : ℕ} {allow : Bool} → control_op.read s 0 ≡ Ok (op, p) → name_by check s p ≡ Ok (span a n, q)
-      → (flag M.ControlFlag).read s q ≡ Ok (allow, r) → text_by check s r ≡ Ok (span b m, e) → length s ≤ e
-      → read_control check s ≡ Ok ((record { op = op; database = part s a n; allow_zero_facts = allow; schema = part s b m }), e)
-  unfolding read_control
-  control_read {e = e} h i j k l = rw (h, i, j, k, le-ltb e (length s) l)
+      → (flag M.ControlFlag).read s q ≡ Ok (allow, r) → text_by check s r ≡ Ok (span b m, e)
+      → (control check).read s 0 ≡ Ok ((record { op = op; database = part s a n; allow_zero_facts = allow; schema = part s b m }), e)
+  control_read h i j k = rw (h, i, j, k)
 
   pub reply_on_lem : {o : ControlOp} {p : ℕ} → control_op.read s 0 ≡ Ok (o, p) → read_reply check s ≡ ended s (reply_on check o s p)
   unfolding read_reply
   reply_on_lem h = rw h
 
-  pub created_read : (at : ℕ) {start n q : ℕ} → name_by check s at ≡ Ok (span start n, q) → length s ≤ q → ended s (reply_on check Create s at) ≡ Ok ((created (part s start n)), q)
-  created_read at {q = q} h l = rw (h, le-ltb q (length s) l)
+  pub created_read : (at : ℕ) {start n q : ℕ} → name_by check s at ≡ Ok (span start n, q) → reply_on check Create s at ≡ Ok ((created (part s start n)), q)
+  created_read at h = rw h
 
   pub finished_same : (at : ℕ) → laid_as lay_reply (ended s (reply_on check Finish s at)) ≡ laid_as lay_finished (ended s (finish.read s at))
   finished_same at = go (finish.read s at)
@@ -81,26 +80,30 @@ module _ (check : Bool) (s : List ℕ) where
   unfolding read_types
   types_read limit h k = rw (h, k)
 
-  pub profile_read : {count p q : ℕ} {l : List Step} → get_u64 s 0 ≡ Ok (count, p) → count ≤ length s → read_times (step check) count s p ≡ Ok (l, q) → length s ≤ q
-      → read_profile check s ≡ Ok (l, q)
-  unfolding read_profile
-  profile_read {count} {q = q} h c k e = rw (h, le-ltb (length s) count c, k, le-ltb q (length s) e)
+  pub profile_read : {count p q : ℕ} {l : List Step} → get_u64 s 0 ≡ Ok (count, p) → count ≤ length s → read_times (step check) count s p ≡ Ok (l, q)
+      → (profile check).read s 0 ≡ Ok (l, q)
+  profile_read {count} h c k = rw (h, le-ltb (length s) count c, k)
 
   pub fetch_read : {d : Option ℕ} {p count r q : ℕ} {l : List ℕ} → digest.read s 0 ≡ Ok (d, p) → get_u64 s p ≡ Ok (count, r) → count ≤ 4096
-      → read_times pair count s r ≡ Ok (l, q) → length s ≤ q → read_fetch s ≡ Ok ((record { digest = d; ids = l }), q)
-  unfolding read_fetch
-  fetch_read {count = count} {q = q} h i c k e = rw (h, i, le-ltb 4096 count c, k, le-ltb q (length s) e)
+      → read_times pair count s r ≡ Ok (l, q) → fetch.read s 0 ≡ Ok ((record { digest = d; ids = l }), q)
+  fetch_read {count = count} h i c k = rw (h, i, le-ltb 4096 count c, k)
 
-  pub session_read : (at : ℕ) {m : Mode} {p f q count r e : ℕ} {l : List Claim} → mode.read s at ≡ Ok (m, p) → get_u64 s p ≡ Ok (f, q) → get_u64 s q ≡ Ok (count, r)
-      → read_times (claim check) count s r ≡ Ok (l, e) → (session check).read s at ≡ Ok ((m, (f, l)), e)
-  session_read at h i j k = rw (h, i, j, k)
+  pub startup_read : {v p start n q r f u count w e : ℕ} {m : Mode} {l : List Claim} → get_u64 s 0 ≡ Ok (v, p) → name_by check s p ≡ Ok (span start n, q)
+      → mode.read s q ≡ Ok (m, r) → get_u64 s r ≡ Ok (f, u) → get_u64 s u ≡ Ok (count, w) → read_times (claim check) count s w ≡ Ok (l, e)
+      → (startup check).read s 0 ≡ Ok ((record { version = v; database = part s start n; mode = m; fingerprint = f; claims = l }), e)
+  startup_read h i j k g c = rw (h, i, j, k, g, c)
 
 -- where the numbers of a page end
 pub page_inside : (s : List ℕ) {limit p n q : ℕ} → get_le 8 s 0 ≡ Ok (limit, p) → get_le 4 s p ≡ Ok (n, q) → q ≤ length s
 page_inside s h k = (get_le_ends 4 s _ _ _ (get_le_ends 8 s 0 _ _ (omega arith) h).1 k).1
 
 module _ (check : Bool) (s : List ℕ) where
-  -- the rest of a page's payload
+  -- the rest of a page's payload, which the reading that checks may refuse
+  pub page_bad : {limit p n q : ℕ} → get_le 8 s 0 ≡ Ok (limit, p) → get_le 4 s p ≡ Ok (n, q) → n ≤ length s - q → check ≡ true → utf8 (drop (q + n) s) ≡ false
+      → read_page check s ≡ Err BadString
+  unfolding read_page
+  page_bad {n = n} {q} h k l c u = rw (h, k, le-ltb (length s - q) n l, c, u)
+
   pub page_read : {limit p n q : ℕ} → get_le 8 s 0 ≡ Ok (limit, p) → get_le 4 s p ≡ Ok (n, q) → n ≤ length s - q → pick check (utf8 (drop (q + n) s)) true ≡ true
       → read_page check s ≡ Ok ((record { limit = limit; cursor = part s q n; query = drop (q + n) s }), length s)
   unfolding read_page

@@ -1,6 +1,6 @@
 -- Rows of every kind, one after the other.
 use mathlib.Core.Bool.{Bool}
-use mathlib.Core.Path.{◌≡◌, refl, ap}
+use mathlib.Core.Path.{◌≡◌, refl, ap, ◌∙◌}
 use mathlib.Core.List.{List, [], ◌∷◌}
 use Prim.Native.Nat.{ℕ, suc, ◌+◌, ◌*◌, ◌≤◌, ◌<◌}
 use native.Mathlib.Omega.{arith}
@@ -25,26 +25,26 @@ use Rattle.protocol.proofs.RowEnds.{weight, claim_ends, step_ends, fact_ends, pr
 use Rattle.std.specs.Prelude.{Ok, Err}
 use Rattle.varint.proofs.Basics.{never}
 
-module _ {A : Type 0} (f : Format A) (piece : A → Piece) (check : Bool) (s : List ℕ) where
-  some : (n at : ℕ) (m m' : Mem) (q : ℕ) → ((a : A) → Seven (piece a)) → (x : Got A) → f.read s at ≡ x → load check piece x m ≡ loaded q m'
-      → load check (many piece) (read_times f (suc n) s at) m ≡ load check (many piece) (read_times f n s q) m'
+module _ {A : Type 0} (f : Format A) (piece : A → Piece) (s : List ℕ) where
+  some : (n at : ℕ) (m m' : Mem) (q : ℕ) → ((a : A) → Seven (piece a)) → (x : Got A) → f.read s at ≡ x → load piece x m ≡ loaded q m'
+      → load (many piece) (read_times f (suc n) s at) m ≡ load (many piece) (read_times f n s q) m'
   unfolding load read_times many
   some n at m m' q seven (Err e) i h = never cc
   some n at m m' q seven (Ok (a, o)) i h =
       let k : o ≡ q = cc in
-      let l : put check (piece a) m ≡ m' = cc in
+      let l : put (piece a) m ≡ m' = cc in
       rw (i, k, ← l) (go (read_times f n s q))
     where
-      go : (y : Got (List A)) → load check (many piece) (then y (λ b e. Ok (a ∷ b, e))) m ≡ load check (many piece) y (put check (piece a) m)
+      go : (y : Got (List A)) → load (many piece) (then y (λ b e. Ok (a ∷ b, e))) m ≡ load (many piece) y (put (piece a) m)
       go (Err e) = refl
-      go (Ok (b, e)) = ap (loaded e) (put_join check (piece a) (many piece b) m (seven a))
+      go (Ok (b, e)) = ap (loaded e) (put_join (piece a) (many piece b) m (seven a))
 
-  none_left : (at : ℕ) (m : Mem) → load check (many piece) (read_times f 0 s at) m ≡ loaded at m
+  none_left : (at : ℕ) (m : Mem) → load (many piece) (read_times f 0 s at) m ≡ loaded at m
   unfolding load read_times many
-  none_left at m = ap (loaded at) (put_none check m)
+  none_left at m = ap (loaded at) (put_none m)
 
-  no_more : (n at : ℕ) (m : Mem) (e : Refusal) (x : Got A) → f.read s at ≡ x → load check piece x m ≡ failed e
-      → load check (many piece) (read_times f (suc n) s at) m ≡ failed e
+  no_more : (n at : ℕ) (m : Mem) (e : Refusal) (x : Got A) → f.read s at ≡ x → load piece x m ≡ failed e
+      → load (many piece) (read_times f (suc n) s at) m ≡ failed e
   unfolding load read_times
   no_more n at m e (Ok (a, o)) i h = never cc
   no_more n at m e (Err x) i h = rw i h
@@ -57,20 +57,32 @@ row_seven K.Predicate a t n = predicate_nodes a t n
 row_seven K.Step a t n = refl
 row_seven K.Pair a t n = refl
 
-module _ (kind : RowKind) (check : Bool) (limit : ℕ) where
-  pub rows_more : (n : ℕ) (s : List ℕ) (at q : ℕ) (m m' : Mem) → load_row kind check limit s at m ≡ loaded q m'
-      → load_rows kind check limit (suc n) s at m ≡ load_rows kind check limit n s q m'
-  unfolding load_row load_rows
-  rows_more n s at q m m' h = some (row kind check limit) (lay_row kind) check s n at m m' q (row_seven kind) _ refl h
+-- what was read leaves the reading and the depth as they are
+stays : {A : Type 0} (piece : A → Piece) (g : Got A) (m m' : Mem) (q : ℕ) → load piece g m ≡ loaded q m' → (m.check ≡ m'.check) × (m.limit ≡ m'.limit)
+unfolding load
+stays piece (Ok (a, o)) m m' q h =
+    let k : put (piece a) m ≡ m' = cc in
+    (ap (λ (y : Mem). y.check) k, ap (λ (y : Mem). y.limit) k)
+stays piece (Err e) m m' q h = never cc
 
-  pub rows_none : (s : List ℕ) (at : ℕ) (m : Mem) → load_rows kind check limit 0 s at m ≡ loaded at m
+module _ (kind : RowKind) where
+  pub rows_more : (n : ℕ) (s : List ℕ) (at q : ℕ) (m m' : Mem) → load_row kind s at m ≡ loaded q m'
+      → load_rows kind (suc n) s at m ≡ load_rows kind n s q m'
+  unfolding load_row load_rows
+  rows_more n s at q m m' h =
+      let k = stays (lay_row kind) _ m m' q h in
+      some (row kind m.check m.limit) (lay_row kind) s n at m m' q (row_seven kind) _ refl h
+      ∙ ap (λ (b : Bool). load (many (lay_row kind)) (read_times (row kind b m.limit) n s q) m') k.0
+      ∙ ap (λ (l : ℕ). load (many (lay_row kind)) (read_times (row kind m'.check l) n s q) m') k.1
+
+  pub rows_none : (s : List ℕ) (at : ℕ) (m : Mem) → load_rows kind 0 s at m ≡ loaded at m
   unfolding load_rows
-  rows_none s at m = none_left (row kind check limit) (lay_row kind) check s at m
+  rows_none s at m = none_left (row kind m.check m.limit) (lay_row kind) s at m
 
-  pub rows_failed : (n : ℕ) (s : List ℕ) (at : ℕ) (m : Mem) (e : Refusal) → load_row kind check limit s at m ≡ failed e
-      → load_rows kind check limit (suc n) s at m ≡ failed e
+  pub rows_failed : (n : ℕ) (s : List ℕ) (at : ℕ) (m : Mem) (e : Refusal) → load_row kind s at m ≡ failed e
+      → load_rows kind (suc n) s at m ≡ failed e
   unfolding load_row load_rows
-  rows_failed n s at m e h = no_more (row kind check limit) (lay_row kind) check s n at m e _ refl h
+  rows_failed n s at m e h = no_more (row kind m.check m.limit) (lay_row kind) s n at m e _ refl h
 
 -- what a row takes of the bytes, and of memory
 pub record Took (s : List ℕ) (at q w : ℕ) (m m' : Mem) : Type 0 where
@@ -80,17 +92,17 @@ pub record Took (s : List ℕ) (at q w : ℕ) (m m' : Mem) : Type 0 where
   pub numbers : w + 2 * at ≤ 2 * q
   pub rows : m'.r ≡ m.r + w
 
-took : {A : Type 0} {f : Format A} {k : ℕ} (piece : A → Piece) (check : Bool) (w : ℕ) → Ends f (λ a. weight (piece a)) k → 0 < k → w ≤ 2 * k
+took : {A : Type 0} {f : Format A} {k : ℕ} (piece : A → Piece) (w : ℕ) → Ends f (λ a. weight (piece a)) k → 0 < k → w ≤ 2 * k
     → ((a : A) (t n : ℕ) → length ((piece a).rows t n) ≡ w)
-    → (s : List ℕ) (at q : ℕ) (m m' : Mem) → at ≤ length s → (x : Got A) → f.read s at ≡ x → load check piece x m ≡ loaded q m' → Took s at q w m m'
+    → (s : List ℕ) (at q : ℕ) (m m' : Mem) → at ≤ length s → (x : Got A) → f.read s at ≡ x → load piece x m ≡ loaded q m' → Took s at q w m m'
 unfolding load
-took piece check w F z l wide s at q m m' h (Err e) i g = never cc
-took piece check w F z l wide s at q m m' h (Ok (a, o)) i g =
+took piece w F z l wide s at q m m' h (Err e) i g = never cc
+took piece w F z l wide s at q m m' h (Ok (a, o)) i g =
     let b = F.ends s at a o h i in
     let b₀ = b.0 in
     let b₁ = b.1 in
     let p : o ≡ q = cc in
-    let y : put check (piece a) m ≡ m' = cc in
+    let y : put (piece a) m ≡ m' = cc in
     let t : m.t + length (piece a).text ≡ m'.t = ap (λ (u : Mem). u.t) y in
     let n : m.n + (piece a).size ≡ m'.n = ap (λ (u : Mem). u.n) y in
     let r : m.r + length ((piece a).rows m.t m.n) ≡ m'.r = ap (λ (u : Mem). u.r) y in
@@ -104,11 +116,11 @@ type_wide p t n = go p.value
     go absent = refl
     go (present v) = refl
 
-pub row_took : (kind : RowKind) (check : Bool) (limit : ℕ) (s : List ℕ) (at q : ℕ) (m m' : Mem) → at ≤ length s → load_row kind check limit s at m ≡ loaded q m'
+pub row_took : (kind : RowKind) (s : List ℕ) (at q : ℕ) (m m' : Mem) → at ≤ length s → load_row kind s at m ≡ loaded q m'
     → Took s at q (width_of kind) m m'
 unfolding load_row
-row_took K.Claim check limit s at q m m' h g = took lay_claim check 3 (claim_ends check) (omega arith) (omega arith) (λ a t n. refl) s at q m m' h _ refl g
-row_took K.Id check limit s at q m m' h g = took lay_id check 1 varint_ends (omega arith) (omega arith) (λ a t n. refl) s at q m m' h _ refl g
-row_took K.Predicate check limit s at q m m' h g = took lay_predicate check 6 (predicate_ends check limit) (omega arith) (omega arith) type_wide s at q m m' h _ refl g
-row_took K.Step check limit s at q m m' h g = took lay_step check 4 (step_ends check) (omega arith) (omega arith) (λ a t n. refl) s at q m m' h _ refl g
-row_took K.Pair check limit s at q m m' h g = took lay_id check 1 fact_ends (omega arith) (omega arith) (λ a t n. refl) s at q m m' h _ refl g
+row_took K.Claim s at q m m' h g = took lay_claim 3 (claim_ends m.check) (omega arith) (omega arith) (λ a t n. refl) s at q m m' h _ refl g
+row_took K.Id s at q m m' h g = took lay_id 1 varint_ends (omega arith) (omega arith) (λ a t n. refl) s at q m m' h _ refl g
+row_took K.Predicate s at q m m' h g = took lay_predicate 6 (predicate_ends m.check m.limit) (omega arith) (omega arith) type_wide s at q m m' h _ refl g
+row_took K.Step s at q m m' h g = took lay_step 4 (step_ends m.check) (omega arith) (omega arith) (λ a t n. refl) s at q m m' h _ refl g
+row_took K.Pair s at q m m' h g = took lay_id 1 fact_ends (omega arith) (omega arith) (λ a t n. refl) s at q m m' h _ refl g

@@ -15,7 +15,7 @@ use Rattle.protocol.specs.Pieces.{words, ◌⊕◌}
 use Rattle.protocol.specs.Wholes.{ended}
 use Rattle.protocol.specs.declared.message.ControlOp.{ControlOp}
 use Rattle.protocol.specs.declared.message.ControlOp.TheVariants.{Finish}
-use Rattle.protocol.specs.declared.message.Span.{Span}
+use Rattle.varint.specs.declared.text.Span.{Span}
 use Rattle.protocol.specs.declared.message.Message.TheVariants as Msg
 
 pub record Control : Type 0 where

@@ -14,7 +14,7 @@ use Rattle.protocol.specs.Fields.{text, error_code}
 use Rattle.protocol.specs.Laying.{Laid, span_of}
 use Rattle.protocol.specs.Pieces.{words}
 use Rattle.protocol.specs.declared.message.ErrorCode.{ErrorCode}
-use Rattle.protocol.specs.declared.message.Span.{Span}
+use Rattle.varint.specs.declared.text.Span.{Span}
 use Rattle.protocol.specs.declared.message.Message.TheVariants as Msg
 
 pub record Error : Type 0 where

@@ -1,7 +1,7 @@
 -- A message laid out for lent memory: its fields, and what it leaves there.
 use Rattle.std.specs.Prelude.{ℕ, List, length}
 use Rattle.protocol.specs.Pieces.{Piece}
-use Rattle.protocol.specs.declared.message.Span.{Span}
+use Rattle.varint.specs.declared.text.Span.{Span}
 use Rattle.protocol.specs.declared.message.Message.{Message}
 
 pub record Laid : Type 0 where

@@ -12,7 +12,7 @@ use Rattle.varint.specs.declared.error.Refusal.TheVariants.{BadMessage, Unexpect
 use Rattle.protocol.specs.Fields.{raw, to_end}
 use Rattle.protocol.specs.Laying.{Laid, span_of}
 use Rattle.protocol.specs.Pieces.{words, ◌⊕◌}
-use Rattle.protocol.specs.declared.message.Span.{Span}
+use Rattle.varint.specs.declared.text.Span.{Span}
 use Rattle.protocol.specs.declared.message.Message.TheVariants as Msg
 
 pub record Page : Type 0 where

@@ -14,7 +14,7 @@ use Rattle.protocol.specs.Pieces.{Piece, words, cells, ◌⊕◌, many}
 use Rattle.protocol.specs.RowsHeld.{enough, held_times}
 use Rattle.protocol.specs.Wholes.{ended, versioned}
 use Rattle.protocol.specs.declared.message.Mode.{Mode}
-use Rattle.protocol.specs.declared.message.Span.{Span}
+use Rattle.varint.specs.declared.text.Span.{Span}
 use Rattle.protocol.specs.declared.message.Message.TheVariants as Msg
 
 -- the version of the protocol that is spoken here: `VERSION` of protocol.rs

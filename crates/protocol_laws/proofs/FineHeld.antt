@@ -36,7 +36,7 @@ use Rattle.protocol.specs.declared.message.ErrorCode.{ErrorCode}
 use Rattle.protocol.specs.declared.message.ControlReply.{ControlReply}
 use Rattle.protocol.specs.declared.message.ControlReply.TheVariants as R
 use Rattle.protocol.specs.declared.message.Mode.{Mode}
-use Rattle.protocol.specs.declared.message.Span.{Span}
+use Rattle.varint.specs.declared.text.Span.{Span}
 use Rattle.protocol.specs.declared.message.Message.{Message}
 use Rattle.protocol.specs.declared.message.Message.TheVariants as Msg
 use Rattle.protocol_laws.specs.Fine.{Wide, Narrow, IfPresent, FineClaim, FinePredicate, FineStep, FineReply, FineSaid, TypedReply, Typed, Numbers}

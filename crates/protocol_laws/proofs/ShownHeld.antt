@@ -25,7 +25,7 @@ use Rattle.protocol.specs.declared.message.ControlReply.TheVariants as R
 use Rattle.protocol.specs.declared.message.Message.{Message}
 use Rattle.protocol.specs.declared.message.Message.TheVariants as Msg
 use Rattle.protocol.specs.declared.message.Mode.{Mode}
-use Rattle.protocol.specs.declared.message.Span.{Span}
+use Rattle.varint.specs.declared.text.Span.{Span}
 use Rattle.protocol_laws.specs.Shown.{claim_columns, id_columns, step_columns, row_shown, shown}
 use Rattle.protocol_laws.proofs.FineHeld.{times_held, rows_held}
 use Rattle.protocol_laws.proofs.ShownRows.{held_weaker, Showing, raw_shown, text_shown, name_shown, Showed, showed_none, showed_more, id_shown, claim_shown, step_shown}

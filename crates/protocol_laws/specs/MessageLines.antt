@@ -11,7 +11,7 @@ use Rattle.protocol.specs.declared.message.ControlReply.{ControlReply}
 use Rattle.protocol.specs.declared.message.ControlReply.TheVariants.{Created, Finished, Removed}
 use Rattle.protocol.specs.declared.message.Message.{Message}
 use Rattle.protocol.specs.declared.message.Message.TheVariants as Msg
-use Rattle.protocol.specs.declared.message.Span.{Span}
+use Rattle.varint.specs.declared.text.Span.{Span}
 
 -- a text: where it starts, and how long it is
 abbrev pub span_in : Span → List ℕ

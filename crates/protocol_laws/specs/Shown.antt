@@ -14,7 +14,7 @@ use Rattle.protocol.specs.declared.message.ErrorCode.TheVariants.{UnknownDatabas
 use Rattle.protocol.specs.declared.message.Message.{Message}
 use Rattle.protocol.specs.declared.message.Message.TheVariants as Msg
 use Rattle.protocol.specs.declared.message.Mode.TheVariants.{ReadWrite}
-use Rattle.protocol.specs.declared.message.Span.{Span}
+use Rattle.varint.specs.declared.text.Span.{Span}
 
 pub data Entry : Type 0 where
   number : ℕ → Entry

@@ -1,20 +1,21 @@
 -- A message's two readings: the first checks it and tells how much memory it takes, the second stores it. Both are one function, so this says
 -- what each of its parts answers and leaves in memory. Where a reading is refused, what it left is not told: the first is lent memory of its own.
-use Rattle.std.specs.Prelude.{Bool, true, false, ◌⊎◌, ◌≡◌, List, [], ◌∷◌, ℕ, ◌+◌, ◌*◌, ◌≤◌, ◌<◌, length, Ok, Err, Result}
+use Rattle.std.specs.Prelude.{Bool, true, ◌⊎◌, ◌≡◌, List, [], ◌∷◌, ℕ, ◌+◌, ◌*◌, ◌-◌, ltb, ◌≤◌, ◌<◌, length, Ok, Err, Result}
 use Rattle.std.proofs.lemmas.List.Edits.{sets}
 use Rattle.varint.specs.Choice.{pick}
 use Rattle.varint.specs.Got.{Got, then}
-use Rattle.varint.specs.Formats.{Format, varint, ◌⊗◌, counted, read_times}
-use Rattle.varint.specs.declared.error.Mismatch.TheVariants as M
+use Rattle.varint.specs.Formats.{Format, varint, ◌⊗◌, read_times}
+use Rattle.varint.specs.declared.error.Buffer.{Buffer}
 use Rattle.varint.specs.declared.error.Refusal.{Refusal}
-use Rattle.varint.specs.declared.error.Refusal.TheVariants.{TypeMismatch}
+use Rattle.varint.specs.declared.error.Refusal.TheVariants.{TrailingBytes, TooSmall}
 use Rattle.varint.specs.Stores.{part, clear_from}
 use Rattle.desc.specs.Decoding.{filled_by}
 use Rattle.desc.specs.Layout.{width}
+use Rattle.desc.specs.Reading.{desc}
 use Rattle.desc.specs.Trees.{Tree}
 use Rattle.protocol.specs.Decoding.{Left, kept}
 use Rattle.protocol.specs.Fetch.{pair}
-use Rattle.protocol.specs.Fields.{narrow, mode, bit, wide_flag, descriptor, Optional, optional}
+use Rattle.protocol.specs.Fields.{bit, wide_flag, descriptor, Optional, optional, optional_on}
 use Rattle.protocol.specs.Ids.{lay_id}
 use Rattle.protocol.specs.Laying.{Laid}
 use Rattle.protocol.specs.Pieces.{Piece, none, cells, tree, ◌⊕◌, many}
@@ -24,20 +25,27 @@ use Rattle.protocol.specs.Said.{read_entry, lay}
 use Rattle.protocol.specs.Startup.{Claim, claim, lay_claim}
 use Rattle.protocol.specs.Types.{Predicate, predicate, has_value, lay_value, lay_predicate}
 use Rattle.protocol.specs.declared.message.Message.{Message}
-use Rattle.protocol.specs.declared.message.Message.TheVariants as Msg
-use Rattle.protocol.specs.declared.message.Mode.{Mode}
 use Rattle.protocol.specs.declared.message.RowKind.{RowKind}
 use Rattle.protocol.specs.declared.message.RowKind.TheVariants as K
 use Rattle.protocol.specs.declared.memory.Memory.{Memory}
-use Rattle.protocol.specs.declared.read.Found.{Found}
 use Rattle.varint.specs.declared.text.Span.{Span}
+
+-- what is told where a message ends at place `at`: bytes left over are refused
+abbrev pub at_end : List ℕ → ℕ → Result (Unit {0}) Refusal
+at_end s at = pick (ltb at (length s)) (Err (TrailingBytes (length s - at))) (Ok tt)
+
+-- what is told of a buffer of so many elements, of which a message takes n
+abbrev pub room : Buffer → ℕ → ℕ → Result (Unit {0}) Refusal
+room buffer lent n = pick (ltb lent n) (Err (TooSmall buffer n)) (Ok tt)
 
 -- x from place `at` of d on, in the reading that does not check
 abbrev pub stored : Bool → List ℕ → ℕ → List ℕ → List ℕ
 stored check d at x = pick check d (sets d at x)
 
--- the lent memory, and where the next byte of text, number of rows and node go
+-- the lent memory: whether the reading is the one that checks, how deep descriptors may nest, and where the next byte of text, number of rows and node go
 pub record Mem : Type 0 where
+  pub check : Bool
+  pub limit : ℕ
   pub text : List ℕ
   pub t : ℕ
   pub rows : List ℕ
@@ -47,9 +55,9 @@ pub record Mem : Type 0 where
 
 -- as the code holds it
 abbrev pub mem : Memory → Mem
-mem m = record { text = m.text.now; t = m.t; rows = m.rows.now; r = m.r; nodes = m.nodes.now; n = m.n }
+mem m = record { check = m.check; limit = m.limit; text = m.text.now; t = m.t; rows = m.rows.now; r = m.r; nodes = m.nodes.now; n = m.n }
 
--- It is still the same three buffers; and was changed so.
+-- It is still the same three buffers; and was changed so. No change is one of the reading or of the depth.
 abbrev pub SameBuffers : Memory → Memory → Type 0
 SameBuffers before after =
     (after.text.ghost_name ≡ before.text.ghost_name) × (after.rows.ghost_name ≡ before.rows.ghost_name) × (after.nodes.ghost_name ≡ before.nodes.ghost_name)
@@ -57,42 +65,71 @@ SameBuffers before after =
 abbrev pub Becomes : (Mem → Mem) → Memory → Memory → Type 0
 Becomes change before after = SameBuffers before after × (mem after ≡ change (mem before))
 
--- numbers of a row, a text that was found, and a descriptor that was found but not yet passed
-abbrev pub with_row : Bool → List ℕ → Mem → Mem
-with_row check x m = record { text = m.text; t = m.t; rows = stored check m.rows m.r x; r = m.r + length x; nodes = m.nodes; n = m.n }
+-- numbers of a row, a text of n bytes, and a descriptor that was found but not yet passed
+abbrev pub with_row : List ℕ → Mem → Mem
+with_row x m = record { check = m.check; limit = m.limit; text = m.text; t = m.t; rows = stored m.check m.rows m.r x; r = m.r + length x; nodes = m.nodes; n = m.n }
 
-abbrev pub with_text : Bool → List ℕ → Got Span → Mem → Mem
-with_text check s (Ok (x, next)) m = record { text = stored check m.text m.t (part s x.start x.len); t = m.t + x.len; rows = m.rows; r = m.r; nodes = m.nodes; n = m.n }
-with_text check s (Err e) m = m
+abbrev pub with_words : List ℕ → ℕ → Mem → Mem
+with_words x n m = record { check = m.check; limit = m.limit; text = stored m.check m.text m.t x; t = m.t + n; rows = m.rows; r = m.r; nodes = m.nodes; n = m.n }
 
-abbrev pub with_desc : Bool → Got (Tree (List ℕ)) → Mem → Mem
-with_desc true g m = m
-with_desc false g m =
-    record { text = (filled_by g m.text m.t m.nodes m.n).text; t = m.t; rows = m.rows; r = m.r; nodes = (filled_by g m.text m.t m.nodes m.n).nodes; n = m.n }
-
-abbrev pub put : Bool → Piece → Mem → Mem
-put check p m =
+abbrev pub with_desc : Got (Tree (List ℕ)) → Mem → Mem
+with_desc g m =
     record {
-      text = stored check m.text m.t p.text;
+      check = m.check;
+      limit = m.limit;
+      text = pick m.check m.text (filled_by g m.text m.t m.nodes m.n).text;
+      t = m.t;
+      rows = m.rows;
+      r = m.r;
+      nodes = pick m.check m.nodes (filled_by g m.text m.t m.nodes m.n).nodes;
+      n = m.n;
+    }
+
+abbrev pub put : Piece → Mem → Mem
+put p m =
+    record {
+      check = m.check;
+      limit = m.limit;
+      text = stored m.check m.text m.t p.text;
       t = m.t + length p.text;
-      rows = stored check m.rows m.r (p.rows m.t m.n);
+      rows = stored m.check m.rows m.r (p.rows m.t m.n);
       r = m.r + length (p.rows m.t m.n);
-      nodes = stored check m.nodes (m.n * width) (p.nodes m.t m.n);
+      nodes = stored m.check m.nodes (m.n * width) (p.nodes m.t m.n);
       n = m.n + p.size;
     }
 
--- the place after what was read, and the memory
-pub data Loaded : Type 0 where
-  loaded : ℕ → Mem → Loaded
-  failed : Refusal → Loaded
+-- ids that were found, from the start of rows on, and not yet passed
+abbrev pub with_run : List ℕ → Mem → Mem
+with_run x m = record { check = m.check; limit = m.limit; text = m.text; t = m.t; rows = stored m.check m.rows 0 x; r = m.r; nodes = m.nodes; n = m.n }
+
+-- What was found in the bytes lies at place t of text; and is there.
+abbrev pub lent_at : ℕ → Got Span → Got Span
+lent_at t (Ok (x, next)) = Ok (record { start = t; len = x.len }, next)
+lent_at t (Err e) = Err e
+
+abbrev pub with_text : List ℕ → Got Span → Mem → Mem
+with_text s (Ok (x, next)) m = with_words (part s x.start x.len) x.len m
+with_text s (Err e) m = m
+
+abbrev pub Keeps : List ℕ → Got Span → Memory → Memory → Got Span → Type 0
+Keeps s found before after x = (x ≡ lent_at before.t found) × Becomes (with_text s found) before after
+
+-- what was found has so few bytes that no place in text overflows
+unfoldable pub Ahead : ℕ → Got Span → Type 0
+Ahead t (Ok (x, next)) = t + x.len < 18446744073709551616
+Ahead t (Err e) = Unit
 
 -- what a reader answers, with the memory after it
-unfoldable pub told_row : Result ℕ Refusal → Mem → Loaded
-told_row (Ok q) m = loaded q m
-told_row (Err e) m = failed e
+pub data Loaded (A : Type 0) : Type 0 where
+  loaded : A → Mem → Loaded A
+  failed : Refusal → Loaded A
 
-abbrev pub Loads : (Mem → Loaded) → Memory → Memory → Result ℕ Refusal → Type 0
-Loads change before after x = SameBuffers before after × (told_row x (mem after) ≡ change (mem before))
+unfoldable pub told : {A : Type 0} → Result A Refusal → Mem → Loaded A
+told (Ok a) m = loaded a m
+told (Err e) m = failed e
+
+abbrev pub Loads : {A : Type 0} → (Mem → Loaded A) → Memory → Memory → Result A Refusal → Type 0
+Loads change before after x = SameBuffers before after × (told x (mem after) ≡ change (mem before))
 
 -- At place `at` of the bytes, so much of them has been read that no place in text or nodes overflows; and none in rows.
 abbrev pub Fits : List ℕ → ℕ → Mem → Type 0
@@ -101,9 +138,10 @@ Fits s at m = (m.t + m.n ≤ at) × (at ≤ length s)
 abbrev pub RowFits : List ℕ → ℕ → Mem → Type 0
 RowFits s at m = Fits s at m × (m.r ≤ 2 * at)
 
-unfoldable pub load : {A : Type 0} → Bool → (A → Piece) → Got A → Mem → Loaded
-load check piece (Ok (a, q)) m = loaded q (put check (piece a) m)
-load check piece (Err e) m = failed e
+-- the place after what was read, and what it leaves
+unfoldable pub load : {A : Type 0} → (A → Piece) → Got A → Mem → Loaded ℕ
+load piece (Ok (a, q)) m = loaded q (put (piece a) m)
+load piece (Err e) m = failed e
 
 -- what a row of each kind is, how it is read, and what it leaves in memory
 abbrev pub Row : RowKind → Type 0
@@ -128,11 +166,18 @@ lay_row K.Step = lay_step
 lay_row K.Pair = lay_id
 
 -- a row at place `at`, and `count` of them
-unfoldable pub load_row : RowKind → Bool → ℕ → List ℕ → ℕ → Mem → Loaded
-load_row kind check limit s at m = load check (lay_row kind) ((row kind check limit).read s at) m
+unfoldable pub load_row : RowKind → List ℕ → ℕ → Mem → Loaded ℕ
+load_row kind s at m = load (lay_row kind) ((row kind m.check m.limit).read s at) m
 
-unfoldable pub load_rows : RowKind → Bool → ℕ → ℕ → List ℕ → ℕ → Mem → Loaded
-load_rows kind check limit count s at m = load check (many (lay_row kind)) (read_times (row kind check limit) count s at) m
+unfoldable pub load_rows : RowKind → ℕ → List ℕ → ℕ → Mem → Loaded ℕ
+load_rows kind count s at m = load (many (lay_row kind)) (read_times (row kind m.check m.limit) count s at) m
+
+-- a descriptor, and a type's value, where it has one
+unfoldable pub load_desc : List ℕ → ℕ → Mem → Loaded ℕ
+load_desc s at m = load tree (desc m.check m.limit m.limit s at) m
+
+unfoldable pub load_value : Bool → List ℕ → ℕ → Mem → Loaded ℕ
+load_value has s at m = load lay_value (optional_on (descriptor m.check m.limit) has s at) m
 
 -- What follows a type's name. The last three numbers of the type's row are told by it.
 abbrev pub sides : Bool → ℕ → Format (Bool × (Tree (List ℕ) × Optional (Tree (List ℕ))))
@@ -141,17 +186,56 @@ sides check limit = wide_flag ⊗ descriptor check limit ⊗ optional (descripto
 abbrev pub lay_sides : Bool × (Tree (List ℕ) × Optional (Tree (List ℕ))) → Piece
 lay_sides c = cells (λ t n. bit c.0 ∷ bit (has_value c.1.1) ∷ n ∷ []) ⊕ tree c.1.0 ⊕ lay_value c.1.1
 
+unfoldable pub load_sides : List ℕ → ℕ → Mem → Loaded ℕ
+load_sides s at m = load lay_sides ((sides m.check m.limit).read s at) m
+
 -- so where a reader has read up to `next`
 unfoldable pub Within : List ℕ → Result ℕ Refusal → Mem → Type 0
 Within s (Ok next) m = Fits s next m
 Within s (Err e) m = Unit
 
--- the text that was read at place t of the lent text
-abbrev pub text_left : Bool → List ℕ → Got Span → List ℕ → ℕ → List ℕ
-text_left check s (Ok (x, next)) tx t = stored check tx t (part s x.start x.len)
-text_left check s (Err e) tx t = tx
+abbrev pub laid_as : {A : Type 0} → (A → Laid) → Got A → Got Laid
+laid_as lay g = then g (λ a q. Ok (lay a, q))
 
--- a whole message: its fields, its sizes in bytes and numbers, and the memory
+-- a message, and what it leaves
+unfoldable pub load_laid : Got Laid → Mem → Loaded Message
+load_laid (Ok (l, q)) m = loaded l.message (put l.piece m)
+load_laid (Err e) m = failed e
+
+-- it has no more nodes than its payload has bytes
+unfoldable pub Few : List ℕ → Result Message Refusal → Mem → Type 0
+Few s (Ok x) m = m.n ≤ length s
+Few s (Err e) m = Unit
+
+-- A reader of messages starts with a memory of which nothing is taken, and reads one as it is laid out.
+abbrev pub Empty : Memory → Type 0
+Empty m = (m.t ≡ 0) × (m.r ≡ 0) × (m.n ≡ 0)
+
+pub record Reads (s : List ℕ) (g : Got Laid) (m m' : Mem) (x : Result Message Refusal) : Type 0 where
+  pub is : told x m' ≡ load_laid g m
+  pub few : Few s x m'
+
+abbrev pub ReadsInto : List ℕ → Got Laid → Memory → Memory → Result Message Refusal → Type 0
+ReadsInto s g before after x = SameBuffers before after × Reads s g (mem before) (mem after) x
+
+-- a message without texts, rows and nodes
+unfoldable pub bare : Got Laid → Result Message Refusal
+bare (Ok (l, q)) = Ok l.message
+bare (Err e) = Err e
+
+pub record ReadsBare (g : Got Laid) (x : Result Message Refusal) : Type 0 where
+  pub is : x ≡ bare g
+
+-- what it leaves of the lent memory
+abbrev pub bare_left : Result Message Refusal → List ℕ → List ℕ → List ℕ → Left
+bare_left (Ok m) tx rs nd = record { answer = Ok m; text = clear_from tx 0; rows = clear_from rs 0; nodes = clear_from nd 0 }
+bare_left (Err e) tx rs nd = kept e tx rs nd
+
+-- the fields of a finished reply
+abbrev pub lay_finished : Finished → Laid
+lay_finished f = lay_reply (finished f)
+
+-- a message and how much it takes of text, rows and nodes, and the memory that it was read into from the start on
 pub data Outcome : Type 0 where
   done : Message → (t r k : ℕ) → (tx rs nd : List ℕ) → Outcome
   refused : Refusal → Outcome
@@ -162,81 +246,20 @@ outcome check (Ok (l, q)) tx rs nd =
     (stored check tx 0 l.piece.text) (stored check rs 0 (l.piece.rows 0 0)) (stored check nd 0 (l.piece.nodes 0 0))
 outcome check (Err e) tx rs nd = refused e
 
-abbrev pub laid_as : {A : Type 0} → (A → Laid) → Got A → Got Laid
-laid_as lay g = then g (λ a q. Ok (lay a, q))
+abbrev pub Sized : Type 0
+Sized = Message × ℕ × ℕ × ℕ
 
--- a message, and how much it takes of text, rows and nodes
-abbrev pub found_with : Message → ℕ → ℕ → ℕ → Found
-found_with message t r k = record { message = message; text = t; rows = r; nodes = k }
+unfoldable pub sized : Result Sized Refusal → List ℕ → List ℕ → List ℕ → Outcome
+sized (Ok x) tx rs nd = done x.0 x.1 x.2 x.3 tx rs nd
+sized (Err e) tx rs nd = refused e
 
--- what a reader of a message answers, with the memory after it
-unfoldable pub told : Result Found Refusal → List ℕ → List ℕ → List ℕ → Outcome
-told (Ok f) tx rs nd = done f.message f.text f.rows f.nodes tx rs nd
-told (Err e) tx rs nd = refused e
+pub record ReadsWhole (check : Bool) (g : Got Laid) (tx rs nd : List ℕ) (x : Result Sized Refusal) (tx' rs' nd' : List ℕ) : Type 0 where
+  pub is : sized x tx' rs' nd' ≡ outcome check g tx rs nd
 
 -- a message without texts, rows and nodes, and how much it takes of them
-unfoldable pub bare : Got Laid → Result Message Refusal
-bare (Ok (l, q)) = Ok l.message
-bare (Err e) = Err e
-
-pub record ReadsBare (g : Got Laid) (x : Result Message Refusal) : Type 0 where
-  pub is : x ≡ bare g
-
-abbrev pub plainly : Result Message Refusal → Result Found Refusal
-plainly (Ok m) = Ok (found_with m 0 0 0)
+abbrev pub plainly : Result Message Refusal → Result Sized Refusal
+plainly (Ok m) = Ok (m, 0, 0, 0)
 plainly (Err e) = Err e
-
--- what it leaves of the lent memory
-abbrev pub bare_left : Result Message Refusal → List ℕ → List ℕ → List ℕ → Left
-bare_left (Ok m) tx rs nd = record { answer = Ok m; text = clear_from tx 0; rows = clear_from rs 0; nodes = clear_from nd 0 }
-bare_left (Err e) tx rs nd = kept e tx rs nd
-
--- A message is read as it is laid out, into any memory; so where it has texts alone, whatever the rows and nodes.
-pub record Reads (check : Bool) (g : Got Laid) (tx rs nd : List ℕ) (x : Result Found Refusal) (tx' rs' nd' : List ℕ) : Type 0 where
-  pub is : told x tx' rs' nd' ≡ outcome check g tx rs nd
-
--- so into a memory of which nothing is taken yet
-abbrev pub Empty : Memory → Type 0
-Empty m = (m.t ≡ 0) × (m.r ≡ 0) × (m.n ≡ 0)
-
-abbrev pub ReadsInto : Bool → Got Laid → Memory → Memory → Result Found Refusal → Type 0
-ReadsInto check g before after x =
-    SameBuffers before after × Reads check g before.text.now before.rows.now before.nodes.now x after.text.now after.rows.now after.nodes.now
-
-pub record ReadsText (check : Bool) (g : Got Laid) (tx : List ℕ) (x : Result Found Refusal) (tx' : List ℕ) : Type 0 where
-  pub is : (rs nd : List ℕ) → Reads check g tx rs nd x tx' rs nd
-
--- the fields of a finished reply
-abbrev pub lay_finished : Finished → Laid
-lay_finished f = lay_reply (finished f)
-
--- what follows the version and the database of a startup
-abbrev pub session : Bool → Format (Mode × (ℕ × List Claim))
-session check = mode ⊗ varint ⊗ counted (claim check)
-
--- A startup of this version, whose database of so many bytes is in the text already.
-abbrev pub session_of : ℕ → ℕ → Mode × (ℕ × List Claim) → Message
-session_of version len c = Msg.Startup version (record { start = 0; len = len }) c.0 c.1.0 (length c.1.1)
-
-unfoldable pub session_outcome : Bool → ℕ → ℕ → Got (Mode × (ℕ × List Claim)) → List ℕ → List ℕ → List ℕ → Outcome
-session_outcome check version len (Ok (c, q)) tx rs nd =
-    pick (narrow version)
-    (done (session_of version len c) (len + length p.text) (length (p.rows len 0)) (length (p.nodes len 0))
-    (stored check tx len p.text) (stored check rs 0 (p.rows len 0)) (stored check nd 0 (p.nodes len 0)))
-    (refused (TypeMismatch M.Version))
-  where
-    p : Piece
-    p = many lay_claim c.1.1
-session_outcome check version len (Err e) tx rs nd = refused e
-
-pub record SessionRead (check : Bool) (version len : ℕ) (g : Got (Mode × (ℕ × List Claim))) (tx rs nd : List ℕ) (x : Result Found Refusal) (tx' rs' nd' : List ℕ) : Type 0 where
-  pub is : told x tx' rs' nd' ≡ session_outcome check version len g tx rs nd
-
--- so into a memory of which the database's text is taken
-abbrev pub SessionInto : Bool → ℕ → Got (Mode × (ℕ × List Claim)) → Memory → Memory → Result Found Refusal → Type 0
-SessionInto check version g before after x =
-    SameBuffers before after
-    × SessionRead check version before.t g before.text.now before.rows.now before.nodes.now x after.text.now after.rows.now after.nodes.now
 
 -- an entry that names no message
 abbrev pub Opaque : ℕ → Type 0

@@ -1,38 +1,53 @@
+use mathlib.Core.Bool.{Bool}
 use mathlib.Core.Path.{refl, sym, ◌∙◌, ap}
-use borrow.Author.Rules.{rules}
+use native.Mathlib.Omega.{arith}
 use Rattle.varint.specs.Stores.{part}
 use Rattle.varint.specs.declared.error.Mismatch.TheVariants as M
+use Rattle.varint.specs.declared.text.Span.{Span}
 use Rattle.protocol.specs.Codes.{op_of}
-use Rattle.protocol.specs.Control.{lay_control}
-use Rattle.protocol.specs.Inner.Loading.{laid_as}
+use Rattle.protocol.specs.Control.{read_control, lay_control}
+use Rattle.protocol.specs.Fields.{text_by}
+use Rattle.protocol.specs.Inner.Loading.{mem, put, laid_as}
+use Rattle.protocol.specs.Laying.{span_of}
+use Rattle.protocol.specs.Pieces.{words}
+use Rattle.protocol.specs.declared.message.Message.TheVariants as Msg
 use Rattle.protocol.proofs.FieldEnds.{flag_ends}
 use Rattle.protocol.proofs.Knows.{known_is}
 use Rattle.protocol.proofs.MessageFields.{control_read}
-use Rattle.protocol.proofs.MessageReads.{texts_read}
-use Rattle.protocol.proofs.TextsRead.{left_of, name_at_lem, text_at}
+use Rattle.protocol.proofs.RowLoads.{text_after}
+use Rattle.protocol.proofs.MessageReads.{flat_laid, kept_span, kept_t, after_text, kept_check, ended_read}
+use Rattle.protocol.proofs.PieceLaws.{put_join}
+use Rattle.protocol.proofs.TextsRead.{name_kept, text_kept}
 use Rattle.protocol.proofs.read.read_control.Goals as goal
 
-pub overflow_add-database : goal.overflow_add-database
-overflow_add-database c =
-    let s = c.args.s.now in
-    let w₁ = name_at_lem c.args.check s _ _ _ _ (sym c.read_name.ensures.0 ∙ c.in_ok-database.was) in
-    let w₂ = text_at c.args.check s _ _ _ _ (sym c.read_text.ensures.0 ∙ c.in_ok-schema.was) in
-    let f = (flag_ends M.ControlFlag).ends s _ _ _ w₁.inside (sym c.read_flag.ensures ∙ c.in_ok-yes.was) in
+pub text-requires : goal.text-requires
+text-requires c =
+    let w = name_kept c.args.s.now _ (mem c.args.memory.now) c.name.ensures.0 c.name.ensures.1.1 c.in_ok-database.was in
+    let w₀ = w.begins in
+    let w₁ = w.ends in
+    let t = kept_t w in
+    let f = (flag_ends M.ControlFlag).ends c.args.s.now _ _ _ w.inside (sym c.read_flag.ensures ∙ c.in_ok-allow_zero_facts.was) in
     let f₀ = f.0 in
-    search rules
+    let z = c.requires.0 in
+    omega arith
 
 pub returns : goal.returns
-unfolding lay_control
+unfolding read_control lay_control
 returns c =
     let s = c.args.s.now in
-    let a = c.in_ok-database.database in
-    let b = c.in_ok-schema.schema in
+    let m = c.args.memory.now in
     let k = sym (known_is op_of _ _ c.read_known.ensures) ∙ c.in_ok-op.was in
-    let n = sym c.read_name.ensures.0 ∙ c.in_ok-database.was in
-    let t = sym c.read_text.ensures.0 ∙ c.in_ok-schema.was in
-    let w₁ = name_at_lem c.args.check s _ _ _ _ n in
-    let w₂ = text_at c.args.check s _ _ _ _ t in
-    texts_read (part s a.start a.len) (part s b.start b.len)
-    (ap (laid_as lay_control) (control_read c.args.check s k n (sym c.read_flag.ensures ∙ c.in_ok-yes.was) t c.if-end-s.false))
-    refl (sym w₁.long) (sym w₂.long) (rw (w₁.long, w₂.long, ← c.span.ensures, ← c.span-2.ensures) c.worded.ensures)
-    (left_of _ _ _ _ c.read_name.ensures.1 c.in_ok-database.was) (left_of _ _ _ _ c.read_text.ensures.1 c.in_ok-schema.was)
+    let w = name_kept s _ (mem m) c.name.ensures.0 c.name.ensures.1.1 c.in_ok-database.was in
+    let v = text_kept s _ _ c.text.ensures.0 c.text.ensures.1.1 c.in_ok-schema.was in
+    let a = part s w.start c.in_ok-database.database.len in
+    let b = part s v.start c.in_ok-schema.schema.len in
+    let h = c.name.ensures.1.0 in
+    let l = c.text.ensures.1.0 in (
+      (l.0 ∙ h.0, l.1 ∙ h.1, l.2 ∙ h.2),
+      flat_laid s
+          (ap (laid_as lay_control) (ended_read s (control_read m.check s k w.is (sym c.read_flag.ensures ∙ c.in_ok-allow_zero_facts.was) (ap (λ (b : Bool). text_by b s c.in_ok-allow_zero_facts.r) (sym (kept_check w)) ∙ v.is)) c.at_end.ensures c.in_ok-at_end.was))
+          (mem m) _
+          (ap (λ (x : Span). Msg.Control c.in_ok-op.op x c.in_ok-allow_zero_facts.allow_zero_facts c.in_ok-schema.schema) (kept_span w c.requires.0)
+          ∙ ap (λ (x : Span). Msg.Control c.in_ok-op.op (span_of 0 a) c.in_ok-allow_zero_facts.allow_zero_facts x) (kept_span v (after_text w c.requires.0)))
+          (text_after v ∙ ap (put (words b)) (text_after w) ∙ sym (put_join (words a) (words b) (mem m) (λ t n. refl))) refl c.requires.2,
+    )

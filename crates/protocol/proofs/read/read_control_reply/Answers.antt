@@ -1,18 +1,28 @@
-use mathlib.Core.Path.{sym, ◌∙◌}
+use mathlib.Core.Path.{refl, sym, ◌∙◌, ap}
 use Rattle.protocol.specs.Codes.{op_of}
+use Rattle.protocol.specs.Inner.Loading.{mem, laid_as}
+use Rattle.protocol.specs.Reply.{lay_reply}
 use Rattle.protocol.proofs.Knows.{known_is}
 use Rattle.protocol.proofs.MessageFields.{reply_on_lem, finished_same}
-use Rattle.protocol.proofs.MessageReads.{bare_text, finished_bare, removed_bare}
+use Rattle.protocol.proofs.MessageReads.{bare_into, finished_bare, ended_read, flat_laid}
+use Rattle.protocol.proofs.PieceLaws.{put_none}
 use Rattle.protocol.proofs.read.read_control_reply.Goals as goal
 
 pub returns-in-Finish : goal.returns-in-Finish
 returns-in-Finish c =
-    let a = c.args in
-    rw (reply_on_lem a.check a.s.now (sym (known_is op_of _ _ c.read_known.ensures) ∙ c.in_ok-op.was), c.in-Finish.is, c.plain.ensures, finished_same a.check a.s.now _)
-    (bare_text a.check a.text.now _ (finished_bare a.s.now _) c.read_finished.ensures)
+    let s = c.args.s.now in
+    let m = c.args.memory.now in (
+      (refl, refl, refl),
+      rw (reply_on_lem m.check s (sym (known_is op_of _ _ c.read_known.ensures) ∙ c.in_ok-op.was), c.in-Finish.is, finished_same m.check s _)
+          (bare_into s (mem m) _ c.requires.2 (finished_bare s _) c.read_finished.ensures),
+    )
 
-pub returns-in-Remove : goal.returns-in-Remove
-returns-in-Remove c =
-    let a = c.args in
-    rw (reply_on_lem a.check a.s.now (sym (known_is op_of _ _ c.read_known.ensures) ∙ c.in_ok-op.was), c.in-Remove.is, c.plain-in-Remove.ensures)
-    (bare_text a.check a.text.now _ (removed_bare a.s.now _) c.read_removed.ensures)
+pub returns-in_ok-at_end-in-Remove : goal.returns-in_ok-at_end-in-Remove
+unfolding lay_reply
+returns-in_ok-at_end-in-Remove c =
+    let s = c.args.s.now in
+    let m = c.args.memory.now in (
+      (refl, refl, refl),
+      rw (reply_on_lem m.check s (sym (known_is op_of _ _ c.read_known.ensures) ∙ c.in_ok-op.was), c.in-Remove.is)
+          (flat_laid s (ap (laid_as lay_reply) (ended_read s refl c.at_end.ensures c.in_ok-at_end-in-Remove.was)) (mem m) (mem m) refl (sym (put_none (mem m))) refl c.requires.2),
+    )

@@ -1,16 +1,22 @@
-use mathlib.Core.Path.{refl, sym, ◌∙◌, ap}
-use Rattle.protocol.specs.Inner.Loading.{laid_as}
+use mathlib.Core.Path.{refl, ap}
+use Rattle.protocol.specs.Inner.Loading.{mem, laid_as}
 use Rattle.protocol.specs.Reply.{lay_reply}
+use Rattle.protocol.specs.declared.message.ControlReply.TheVariants as R
+use Rattle.protocol.specs.declared.message.Message.TheVariants as Msg
+use Rattle.varint.specs.declared.text.Span.{Span}
 use Rattle.protocol.proofs.MessageFields.{created_read}
-use Rattle.protocol.proofs.MessageReads.{text_read}
-use Rattle.protocol.proofs.TextsRead.{left_of, name_at_lem}
+use Rattle.protocol.proofs.RowLoads.{text_after}
+use Rattle.protocol.proofs.MessageReads.{flat_laid, kept_span, ended_read}
+use Rattle.protocol.proofs.TextsRead.{name_kept}
 use Rattle.protocol.proofs.read.read_created.Goals as goal
 
 pub returns : goal.returns
 unfolding lay_reply
 returns c =
     let s = c.args.s.now in
-    let n = sym c.read_name.ensures.0 ∙ c.in_ok-found.was in
-    let w = name_at_lem c.args.check s _ _ _ _ n in
-    text_read _ (ap (laid_as lay_reply) (created_read c.args.check s c.args.at n c.if-end-s.false)) refl (sym w.long)
-    (rw (w.long, ← c.span.ensures) c.worded.ensures) (left_of _ _ _ _ c.read_name.ensures.1 c.in_ok-found.was)
+    let m = c.args.memory.now in
+    let w = name_kept s _ (mem m) c.name.ensures.0 c.name.ensures.1.1 c.in_ok-instance.was in (
+      c.name.ensures.1.0,
+      flat_laid s (ap (laid_as lay_reply) (ended_read s (created_read m.check s c.args.at w.is) c.at_end.ensures c.in_ok-at_end.was)) (mem m) _
+          (ap (λ (x : Span). Msg.Reply (R.Created x)) (kept_span w c.requires.0)) (text_after w) refl c.requires.2,
+    )

@@ -1,27 +1,41 @@
-use mathlib.Core.Path.{refl, sym, ◌∙◌, ap}
-use borrow.Author.Tests.{lt-ltb, le-ltb}
+use mathlib.Core.Path.{sym, ◌∙◌, ap}
+use borrow.Author.Tests.{le-ltb}
 use Rattle.std.proofs.lemmas.Result.{err_from_is_err_and}
-use Rattle.protocol.specs.Inner.Loading.{laid_as}
-use Rattle.protocol.proofs.RowMessages.{reads_refused, rows_read}
+use Rattle.protocol.specs.Inner.Loading.{mem, laid_as}
 use Rattle.protocol.specs.Profile.{read_profile, lay_profile}
-use Rattle.protocol.proofs.RowMessages.{rows_went, no_rows, from_start}
+use Rattle.protocol.specs.declared.message.Message.TheVariants as Msg
+use Rattle.protocol.specs.declared.message.RowKind.TheVariants as K
 use Rattle.protocol.proofs.MessageFields.{profile_read}
+use Rattle.protocol.proofs.MessageReads.{ended_refused, ended_read, reads_refused, laid_read}
+use Rattle.protocol.proofs.RowMessages.{rows_went, no_rows, few}
 use Rattle.protocol.proofs.read.read_profile.Goals as goal
 
-pub returns-in_err-next : goal.returns-in_err-next
+pub returns-in_err-end : goal.returns-in_err-end
 unfolding read_profile
-returns-in_err-next c =
-    let p = err_from_is_err_and c.from_residual-in_err-next.result c.from_residual-in_err-next.ensures.1 in
-    rw (p.1, p.2) (c.read_rows.ensures.0.0, reads_refused (rw ((sym c.get_u64.ensures ∙ c.in_ok-steps.was), le-ltb _ _ c.if-length-steps.false, no_rows _ _ _ _ _ _ _ _ _ _ _ _ _ (from_start c.args.memory.now c.requires.0) c.read_rows.ensures.0.1 c.in_err-next.was)))
+returns-in_err-end c =
+    let p = err_from_is_err_and c.from_residual-in_err-end.result c.from_residual-in_err-end.ensures.1 in
+    let n = no_rows K.Step _ _ _ (mem c.args.memory.now) _ c.read_rows.ensures.0.1 c.in_err-end.was in
+    rw (p.1, p.2) (c.read_rows.ensures.0.0, reads_refused (rw ((sym c.get_u64.ensures ∙ c.in_ok-steps.was), le-ltb _ _ c.if-length-steps.false, n)))
 
-pub returns-then-next-s : goal.returns-then-next-s
+pub returns-in_err-at_end : goal.returns-in_err-at_end
 unfolding read_profile
-returns-then-next-s c =
-    let w = rows_went _ _ _ _ _ _ _ _ _ _ _ _ _ (from_start c.args.memory.now c.requires.0) c.read_rows.ensures.0.1 c.in_ok-next.was in
-    rw c.left_over.ensures (c.read_rows.ensures.0.0, reads_refused (rw ((sym c.get_u64.ensures ∙ c.in_ok-steps.was), le-ltb _ _ c.if-length-steps.false, w.is, lt-ltb _ _ c.if-next-s.true)))
+returns-in_err-at_end c =
+    let s = c.args.s.now in
+    let m = mem c.args.memory.now in
+    let p = err_from_is_err_and c.from_residual-in_err-at_end.result c.from_residual-in_err-at_end.ensures.1 in
+    let w = rows_went K.Step _ _ _ m _ c.read_rows.ensures.0.1 c.in_ok-end.was in
+    rw (p.1, p.2) (
+      c.read_rows.ensures.0.0,
+      reads_refused (ap (laid_as lay_profile) (ended_refused s (profile_read m.check s (sym c.get_u64.ensures ∙ c.in_ok-steps.was) c.if-length-steps.false w.is) c.at_end.ensures c.in_err-at_end.was)),
+    )
 
 pub returns : goal.returns
-unfolding lay_profile
+unfolding read_profile lay_profile
 returns c =
-    let w = rows_went _ _ _ _ _ _ _ _ _ _ _ _ _ (from_start c.args.memory.now c.requires.0) c.read_rows.ensures.0.1 c.in_ok-next.was in
-    (c.read_rows.ensures.0.0, rows_read w (ap (laid_as lay_profile) (profile_read c.args.check c.args.s.now (sym c.get_u64.ensures ∙ c.in_ok-steps.was) c.if-length-steps.false w.is c.if-next-s.false)) refl refl (rw (← w.counted, c.rowed.ensures)))
+    let s = c.args.s.now in
+    let m = mem c.args.memory.now in
+    let w = rows_went K.Step _ _ _ m _ c.read_rows.ensures.0.1 c.in_ok-end.was in (
+      c.read_rows.ensures.0.0,
+      laid_read s (ap (laid_as lay_profile) (ended_read s (profile_read m.check s (sym c.get_u64.ensures ∙ c.in_ok-steps.was) c.if-length-steps.false w.is) c.at_end.ensures c.in_ok-at_end.was))
+          m _ (ap Msg.Profile w.counted) w.left (few s _ c.read_rows.ensures.1 c.in_ok-end.was),
+    )

@@ -1,19 +1,27 @@
-use mathlib.Core.Path.{refl, sym, ◌∙◌, ap}
-use Rattle.protocol.specs.Inner.Loading.{laid_as}
-use Rattle.protocol.proofs.RowMessages.{reads_refused, rows_read, rows_went, no_rows, from_start}
-use Rattle.protocol.specs.Types.{read_types, lay_types}
+use mathlib.Core.Path.{sym, ◌∙◌, ap}
 use Rattle.std.proofs.lemmas.Result.{err_from_is_err_and}
+use Rattle.protocol.specs.Inner.Loading.{mem, laid_as}
+use Rattle.protocol.specs.Types.{read_types, lay_types}
+use Rattle.protocol.specs.declared.message.Message.TheVariants as Msg
+use Rattle.protocol.specs.declared.message.RowKind.TheVariants as K
 use Rattle.protocol.proofs.MessageFields.{types_read}
+use Rattle.protocol.proofs.MessageReads.{reads_refused, laid_read}
+use Rattle.protocol.proofs.RowMessages.{rows_went, no_rows, few}
 use Rattle.protocol.proofs.read.read_types.Goals as goal
 
 pub returns-in_err-read_rows : goal.returns-in_err-read_rows
 unfolding read_types
 returns-in_err-read_rows c =
     let p = err_from_is_err_and c.from_residual-in_err-read_rows.result c.from_residual-in_err-read_rows.ensures.1 in
-    rw (p.1, p.2) (c.read_rows.ensures.0.0, reads_refused (rw ((sym c.get_u64.ensures ∙ c.in_ok-count.was), no_rows _ _ _ _ _ _ _ _ _ _ _ _ _ (from_start c.args.memory.now c.requires.0) c.read_rows.ensures.0.1 c.in_err-read_rows.was)))
+    let n = no_rows K.Predicate _ _ _ (mem c.args.memory.now) _ c.read_rows.ensures.0.1 c.in_err-read_rows.was in
+    rw (p.1, p.2) (c.read_rows.ensures.0.0, reads_refused (rw ((sym c.get_u64.ensures ∙ c.in_ok-count.was), n)))
 
 pub returns : goal.returns
 unfolding lay_types
 returns c =
-    let w = rows_went _ _ _ _ _ _ _ _ _ _ _ _ _ (from_start c.args.memory.now c.requires.0) c.read_rows.ensures.0.1 c.in_ok-read_rows.was in
-    (c.read_rows.ensures.0.0, rows_read w (ap (laid_as lay_types) (types_read c.args.check c.args.s.now c.args.limit (sym c.get_u64.ensures ∙ c.in_ok-count.was) w.is)) refl refl (rw (← w.counted, c.rowed.ensures)))
+    let s = c.args.s.now in
+    let m = mem c.args.memory.now in
+    let w = rows_went K.Predicate _ _ _ m _ c.read_rows.ensures.0.1 c.in_ok-read_rows.was in (
+      c.read_rows.ensures.0.0,
+      laid_read s (ap (laid_as lay_types) (types_read m.check s m.limit (sym c.get_u64.ensures ∙ c.in_ok-count.was) w.is)) m _ (ap Msg.Types w.counted) w.left (few s _ c.read_rows.ensures.1 c.in_ok-read_rows.was),
+    )

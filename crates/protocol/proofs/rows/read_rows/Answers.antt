@@ -13,7 +13,7 @@ returns-in_err-next g c =
     let h = c.loop.invariant.0 in
     let k = c.read.ensures.0 in
     rw (p.1, p.2)
-    (((k.0 ∙ h.0, k.1 ∙ h.1, k.2 ∙ h.2), rows_stop g.R.Row.KIND a.check a.limit a.s.now _ _ c.loop.invariant.2 (omega arith) _ _ (rw c.in_err-next.was at c.read.ensures.1)), tt)
+    (((k.0 ∙ h.0, k.1 ∙ h.1, k.2 ∙ h.2), rows_stop g.R.Row.KIND a.s.now _ _ c.loop.invariant.2 (omega arith) _ _ (rw c.in_err-next.was at c.read.ensures.1)), tt)
 
 pub loop-preserved : goal.loop-preserved
 loop-preserved g c =
@@ -22,12 +22,12 @@ loop-preserved g c =
     let k = c.read.ensures.0 in
     let one = rw c.in_ok-next.was at c.read.ensures.1 in (
       (k.0 ∙ h.0, k.1 ∙ h.1, k.2 ∙ h.2),
-      row_fits g.R.Row.KIND a.check a.limit a.s.now _ _ _ _ c.loop.invariant.1 one,
-      rows_on g.R.Row.KIND a.check a.limit a.s.now _ _ c.loop.invariant.2 (omega arith) _ _ one (omega arith),
+      row_fits g.R.Row.KIND a.s.now _ _ _ _ c.loop.invariant.1 one,
+      rows_on g.R.Row.KIND a.s.now _ _ c.loop.invariant.2 (omega arith) _ _ one (omega arith),
     )
 
 pub returns : goal.returns
 unfolding Within
 returns g c =
     let a = c.args in
-    ((c.loop.invariant.0, rows_done g.R.Row.KIND a.check a.limit a.s.now {all = load_rows g.R.Row.KIND a.check a.limit a.count a.s.now a.at (mem a.memory.now)} _ _ c.loop.invariant.2 (omega arith)), c.loop.invariant.1.0)
+    ((c.loop.invariant.0, rows_done g.R.Row.KIND a.s.now {all = load_rows g.R.Row.KIND a.count a.s.now a.at (mem a.memory.now)} _ _ c.loop.invariant.2 (omega arith)), c.loop.invariant.1.0)

@@ -1,11 +1,9 @@
 use mathlib.Core.Path.{sym, ◌∙◌, ap}
 use borrow.Author.Rules.{rules}
 use native.Mathlib.Omega.{arith}
-use Rattle.std.proofs.lemmas.Result.{err_from_is_err_and}
-use Rattle.protocol.specs.Pieces.{tree}
-use Rattle.protocol.specs.Inner.Loading.{Mem, load, mem, told_row, Within}
+use Rattle.protocol.specs.Inner.Loading.{Mem, mem, Within}
 use Rattle.protocol.proofs.FieldEnds.{wide_flag_inside}
-use Rattle.protocol.proofs.TypeLoads.{mem_went, mem_refused, sides_read}
+use Rattle.protocol.proofs.TypeLoads.{desc_went, sides_read}
 use Rattle.protocol.proofs.rows.read_sides.Goals as goal
 
 pub desc-requires : goal.desc-requires
@@ -20,7 +18,7 @@ store_three-requires c =
     let w = wide_flag_inside c.args.s.now c.args.at _ _ (sym c.read_wide_flag.ensures ∙ c.in_ok-is_virtual.was) in
     let w₀ = w.0 in
     let w₁ = w.1 in
-    let r = ap (λ (y : Mem). y.r) (mem_went c.args.check tree _ (mem c.args.memory.now) _ _ (rw c.in_ok-q.was at c.desc.ensures.0.1)).left in
+    let r = ap (λ (y : Mem). y.r) (desc_went c.args.s.now _ (mem c.args.memory.now) _ _ (rw c.in_ok-q.was at c.desc.ensures.0.1)).left in
     let h = c.requires.1 in
     search rules
 
@@ -36,20 +34,6 @@ read_value-requires c =
     let n = ap (λ (y : Mem). y.n) c.store_three.ensures.1 in
     (omega arith, omega arith)
 
-pub returns-in_err-q : goal.returns-in_err-q
-unfolding load told_row
-returns-in_err-q c =
-    let p = err_from_is_err_and c.from_residual-in_err-q.result c.from_residual-in_err-q.ensures.1 in
-    rw (p.1, p.2)
-    (c.desc.ensures.0.0, rw ((sym c.read_wide_flag.ensures ∙ c.in_ok-is_virtual.was), mem_refused c.args.check tree _ (mem c.args.memory.now) _ (rw c.in_err-q.was at c.desc.ensures.0.1)))
-
-pub returns-in_err-has : goal.returns-in_err-has
-unfolding load told_row
-returns-in_err-has c =
-    let p = err_from_is_err_and c.from_residual-in_err-has.result c.from_residual-in_err-has.ensures.1 in
-    rw (p.1, p.2)
-    (c.desc.ensures.0.0, rw ((sym c.read_wide_flag.ensures ∙ c.in_ok-is_virtual.was), (mem_went c.args.check tree _ _ _ _ (rw c.in_ok-q.was at c.desc.ensures.0.1)).is, sym c.read_wide_flag-2.ensures ∙ c.in_err-has.was))
-
 pub returns : goal.returns
 returns c =
     let a = c.args in
@@ -57,5 +41,5 @@ returns c =
     let k = c.store_three.ensures.0 in
     let l = c.read_value.ensures.0 in (
       (l.0 ∙ k.0 ∙ h.0, l.1 ∙ k.1 ∙ h.1, l.2 ∙ k.2 ∙ h.2),
-      sides_read a.check a.limit a.s.now a.at (mem a.memory.now) _ _ _ _ (sym c.read_wide_flag.ensures ∙ c.in_ok-is_virtual.was) (rw c.in_ok-q.was at c.desc.ensures.0.1) (sym c.read_wide_flag-2.ensures ∙ c.in_ok-has.was) c.from-first.ensures c.from-second.ensures c.store_three.ensures.1 c.read_value.ensures.1,
+      sides_read a.s.now a.at (mem a.memory.now) _ _ _ _ (sym c.read_wide_flag.ensures ∙ c.in_ok-is_virtual.was) (rw c.in_ok-q.was at c.desc.ensures.0.1) (sym c.read_wide_flag-2.ensures ∙ c.in_ok-has.was) c.from.ensures c.from-2.ensures c.store_three.ensures.1 c.read_value.ensures.1,
     )

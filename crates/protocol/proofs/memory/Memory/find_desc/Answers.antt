@@ -5,5 +5,5 @@ use Rattle.protocol.proofs.memory.Memory.find_desc.Goals as goal
 
 pub returns : goal.returns
 returns c =
-    let d = desc_filled c.args.check c.args.limit c.args.s.now c.args.at (mem c.args.self.now) c.if-check.false c.requires.0 c.fill_desc.ensures.0 c.fill_desc.ensures.1 refl refl refl refl in
+    let d = desc_filled c.args.s.now c.args.at (mem c.args.self.now) c.if-self.false c.requires.0 c.fill_desc.ensures.0 c.fill_desc.ensures.1 refl refl refl refl refl refl in
     (d.0, ((refl, refl, refl), d.1))

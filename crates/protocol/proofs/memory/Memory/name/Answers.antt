@@ -1,12 +1,13 @@
-use mathlib.Core.Path.{sym, ◌∙◌}
-use borrow.Author.Rules.{rules}
-use Rattle.protocol.proofs.TextsRead.{name_at_lem}
+use mathlib.Core.Bool.{true, false}
+use native.Mathlib.Omega.{arith}
+use Rattle.protocol.proofs.TextsRead.{name_ahead}
+use Rattle.protocol.proofs.memory.Memory.name.Goals.{then-self, else-self}
 use Rattle.protocol.proofs.memory.Memory.name.Goals as goal
 
-pub overflow_add-self : goal.overflow_add-self
-overflow_add-self c =
-    let w = name_at_lem c.args.check c.args.s.now c.args.at _ _ _ (sym c.read_name.ensures.0 ∙ c.in_ok-span.was) in
-    let w₀ = w.begins in
-    let w₁ = w.ends in
-    let w₂ = w.inside in
-    search rules
+pub keep-requires : goal.keep-requires
+keep-requires c =
+    let l = c.type_inv.s in
+    elim c.if-self.branch [
+      | then-self w ↦ rw (w.found-is, w.take_name-found.ensures) (name_ahead true c.args.s.now c.args.at c.requires (omega arith))
+      | else-self w ↦ rw (w.found-is, w.skim_str-found.ensures) (name_ahead false c.args.s.now c.args.at c.requires (omega arith))
+    ]

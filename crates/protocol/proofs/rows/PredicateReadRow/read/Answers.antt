@@ -1,18 +1,13 @@
-use mathlib.Core.Path.{refl, sym, ◌∙◌, ap}
+use mathlib.Core.Path.{sym, ◌∙◌, ap}
 use mathlib.Core.List.{[], ◌∷◌}
 use borrow.Author.Rules.{rules}
-use borrow.Author.Tests.{lt-leb}
 use native.Mathlib.Omega.{arith}
 use Rattle.varint.proofs.FormatParts.{num_inside}
-use Rattle.protocol.specs.Inner.Loading.{Mem, load, load_row, mem, told_row}
-use Rattle.protocol.proofs.RowLoads.{text_and_row, row_place}
-use Rattle.protocol.proofs.TextsRead.{name_at_lem}
+use Rattle.protocol.specs.Inner.Loading.{Mem, load_row, mem}
+use Rattle.protocol.proofs.RowLoads.{row_place, text_and_row}
+use Rattle.protocol.proofs.TextsRead.{name_kept}
 use Rattle.protocol.proofs.TypeLoads.{type_read}
 use Rattle.protocol.proofs.rows.PredicateReadRow.read.Goals as goal
-
-pub returns-then-id-gt-MAX_U32 : goal.returns-then-id-gt-MAX_U32
-unfolding load load_row told_row
-returns-then-id-gt-MAX_U32 c = ((refl, refl, refl), rw ((sym c.get_u64.ensures ∙ c.in_ok-id.was), lt-leb _ _ c.if-id-gt-MAX_U32.true))
 
 pub name-requires : goal.name-requires
 name-requires c =
@@ -26,7 +21,8 @@ store_three-requires c =
     let v = num_inside c.args.s.now c.args.at _ _ (sym c.get_u64.ensures ∙ c.in_ok-id.was) in
     let v₀ = v.0 in
     let v₁ = v.1 in
-    let r = row_place c.args.check c.args.s.now (mem c.args.memory.now) _ _ c.name.ensures.1.1 in
+    let w = name_kept c.args.s.now _ (mem c.args.memory.now) c.name.ensures.0 c.name.ensures.1.1 c.in_ok-name.was in
+    let r = row_place w in
     let h = c.requires.1 in
     search rules
 
@@ -36,11 +32,11 @@ read_sides-requires c =
     let v = num_inside a.s.now a.at _ _ (sym c.get_u64.ensures ∙ c.in_ok-id.was) in
     let v₀ = v.0 in
     let v₁ = v.1 in
-    let w = name_at_lem a.check a.s.now _ _ _ _ (sym c.name.ensures.0 ∙ c.in_ok-name.was) in
+    let w = name_kept a.s.now _ (mem a.memory.now) c.name.ensures.0 c.name.ensures.1.1 c.in_ok-name.was in
     let w₀ = w.begins in
     let w₁ = w.ends in
     let w₂ = w.inside in
-    let e = text_and_row a.check a.s.now (mem a.memory.now) _ (c.in_ok-id.id ∷ a.memory.now.t ∷ c.in_ok-name.name.len ∷ []) c.name.ensures.1.1 c.in_ok-name.was c.store_three.ensures.1 in
+    let e = text_and_row (mem a.memory.now) _ (λ t. c.in_ok-id.id ∷ t ∷ c.in_ok-name.name.len ∷ []) w c.store_three.ensures.1 in
     let t = ap (λ (y : Mem). y.t) e in
     let r = ap (λ (y : Mem). y.r) e in
     let n = ap (λ (y : Mem). y.n) e in
@@ -52,11 +48,11 @@ pub returns : goal.returns
 unfolding load_row
 returns c =
     let a = c.args in
-    let w = name_at_lem a.check a.s.now _ _ _ _ (sym c.name.ensures.0 ∙ c.in_ok-name.was) in
+    let w = name_kept a.s.now _ (mem a.memory.now) c.name.ensures.0 c.name.ensures.1.1 c.in_ok-name.was in
     let h = c.name.ensures.1.0 in
     let k = c.store_three.ensures.0 in
     let l = c.read_sides.ensures.0 in (
       (l.0 ∙ k.0 ∙ h.0, l.1 ∙ k.1 ∙ h.1, l.2 ∙ k.2 ∙ h.2),
-      type_read a.check a.limit a.s.now a.at (mem a.memory.now) _ _ (sym c.get_u64.ensures ∙ c.in_ok-id.was) c.if-id-gt-MAX_U32.false (sym c.name.ensures.0 ∙ c.in_ok-name.was) w.long
-          (text_and_row a.check a.s.now (mem a.memory.now) _ (c.in_ok-id.id ∷ a.memory.now.t ∷ c.in_ok-name.name.len ∷ []) c.name.ensures.1.1 c.in_ok-name.was c.store_three.ensures.1) c.read_sides.ensures.1,
+      type_read a.s.now a.at (mem a.memory.now) _ _ (sym c.get_u64.ensures ∙ c.in_ok-id.was) c.if-id-gt-MAX_U32.false w.is w.long
+          (text_and_row (mem a.memory.now) _ (λ t. c.in_ok-id.id ∷ t ∷ c.in_ok-name.name.len ∷ []) w c.store_three.ensures.1) c.read_sides.ensures.1,
     )
