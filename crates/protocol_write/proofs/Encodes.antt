@@ -1,6 +1,6 @@
 -- The ways out of the encoder: a refusal of the message; a payload that is too long, that does not fit, or that is written.
 use mathlib.Core.Path.{◌≡◌, refl, sym, ap, ◌∙◌}
-use mathlib.Core.List.{List, [], ◌∷◌}
+use mathlib.Core.List.{List, []}
 use Prim.Native.Nat.{ℕ, ◌+◌, ◌≤◌, ◌<◌}
 use native.Mathlib.Omega.{arith}
 use lib.ListN.{length}
@@ -59,7 +59,7 @@ module _ (max limit : ℕ) (m : Message) (tx rs nd d : List ℕ) (v : Result (Un
       size_is : n ≡ declared (length bytes)
       unfolding size_of put_bytes
       size_is =
-          let s : Pen = record { out = 0 ∷ []; place = 0 } in
+          let s : Pen = record { out = []; place = 0 } in
           let r : Roomy s = record { short = omega arith; inside = omega arith } in
           let e : 0 + length bytes ≡ length bytes = omega arith in
           size ∙ ap (λ (k : Pen). k.place) (prints.stores s r) ∙ ap declared e

@@ -5,6 +5,7 @@ pub mod Printing
 pub mod RowLoops
 pub mod RowPrints
 pub mod RowsLaid
+pub mod RowsSame
 pub mod Sends
 pub mod TextChecks
 pub mod Verdicts

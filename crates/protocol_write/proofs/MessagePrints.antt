@@ -39,7 +39,7 @@ use Rattle.protocol.specs.declared.message.Message.{Message}
 use Rattle.protocol.specs.declared.message.Message.TheVariants as Msg
 use Rattle.protocol.specs.declared.message.Mode.{Mode}
 use Rattle.protocol.specs.declared.message.RowKind.TheVariants as K
-use Rattle.protocol.specs.declared.message.Span.{Span}
+use Rattle.varint.specs.declared.text.Span.{Span}
 use Rattle.protocol_write.specs.Inner.Writing.{put_two, put_counted, put_tagged, put_startup, put_control, put_finished, put_reply, put_page, put_digest, put_message}
 use Rattle.protocol_write.proofs.Printing.{took, held_same, Prints, prints_then, prints_number, prints_two, prints_byte, prints_flag, prints_fixed, fixed_same, prints_text}
 use Rattle.protocol_write.proofs.RowPrints.{claim_prints, step_prints, id_prints, pair_prints, type_prints, counted_prints}
@@ -89,7 +89,7 @@ error_prints code span tx m e =
     rw (← q) (tagged_prints (error_byte code) span tx a.value a.is)
 
 control_prints : (op : ControlOp) (database : Span) (allow : Bool) (schema : Span) (tx : List ℕ) (m : Control) → held_control op database allow schema tx ≡ held m
-    → Prints (put_control (op_byte op) database allow schema tx) ((control true).print m)
+    → Prints (put_control op database allow schema tx) ((control true).print m)
 unfolding held_control put_control put_tagged name_held
 control_prints op database allow schema tx m e =
     let a =
@@ -150,7 +150,7 @@ three_prints u v w = prints_then (prints_number u) (prints_then (prints_number v
 module _ (limit : ℕ) (tx rs nd : List ℕ) where
   startup_prints : (version : ℕ) (database : Span) (mode : Mode) (fingerprint count : ℕ) (m : Startup)
       → held_startup version database mode fingerprint count tx rs ≡ held m
-      → Prints (λ s. put_counted K.Claim limit tx rs nd count (put_startup version database (mode_byte mode) fingerprint tx s)) ((startup true).print m)
+      → Prints (λ s. put_counted K.Claim limit tx rs nd count (put_startup version database mode fingerprint tx s)) ((startup true).print m)
   unfolding held_startup put_startup
   startup_prints version database mode fingerprint count m e =
       let N = name_held tx database.start database.len in
@@ -214,7 +214,7 @@ module _ (limit : ℕ) (tx rs nd : List ℕ) where
   unfolding held_said put_message print_said
   write_said (Msg.Startup version database mode fingerprint count) x e =
       said_prints said_startup (held_startup version database mode fingerprint count tx rs)
-      (λ s. put_counted K.Claim limit tx rs nd count (put_startup version database (mode_byte mode) fingerprint tx s))
+      (λ s. put_counted K.Claim limit tx rs nd count (put_startup version database mode fingerprint tx s))
       x
       (startup_prints version database mode fingerprint count)
       e
@@ -224,7 +224,7 @@ module _ (limit : ℕ) (tx rs nd : List ℕ) where
   write_said (Msg.Ids count) x e = said_prints said_ids (held_ids count rs) (put_counted K.Id limit tx rs nd count) x (ids_prints count) e
   write_said (Msg.Types count) x e = said_prints said_types (held_types limit count tx rs nd) (put_counted K.Predicate limit tx rs nd count) x (types_prints count) e
   write_said (Msg.Control op database allow schema) x e =
-      said_prints said_control (held_control op database allow schema tx) (put_control (op_byte op) database allow schema tx) x (control_prints op database allow schema tx) e
+      said_prints said_control (held_control op database allow schema tx) (put_control op database allow schema tx) x (control_prints op database allow schema tx) e
   write_said (Msg.Reply reply) x e = said_prints said_reply (held_reply reply tx) (put_reply reply tx) x (reply_prints reply tx) e
   write_said (Msg.Profile count) x e = said_prints said_profile (held_profile count tx rs) (put_counted K.Step limit tx rs nd count) x (profile_prints count) e
   write_said (Msg.Page most cursor query) x e = said_prints said_page (held_page most cursor query tx) (put_page most cursor query tx) x (page_prints most cursor query tx) e

@@ -1,10 +1,10 @@
 -- Tests of a type's nodes: the only refusal is that of the layout.
 use mathlib.Core.Path.{◌≡◌, refl, ◌∙◌, ap}
-use mathlib.Core.List.{List, []}
-use Prim.Native.Nat.{ℕ, zero, suc, ◌+◌, ◌-◌, ◌≤◌, ◌<◌}
+use mathlib.Core.List.{List, [], ◌++◌}
+use Prim.Native.Nat.{ℕ, zero, suc, ◌+◌, ◌-◌, ◌*◌, ◌<◌}
 use native.Mathlib.Omega.{arith}
 use lib.Dec.{eqb}
-use lib.ListN.{get_or}
+use lib.ListN.{length, get_or}
 use borrow.Author.Tests.{eqb-true}
 use Rattle.varint.specs.Choice.{pick}
 use Rattle.varint.specs.Got.{Got}
@@ -23,7 +23,10 @@ use Rattle.desc.proofs.TableNames.{table_bad, table_verdict}
 use Rattle.desc.proofs.TableSound.{table_sound, some_size}
 use Rattle.protocol.specs.Fields.{yes}
 use Rattle.protocol.specs.Types.{node_after, type_laid, types_laid}
-use Rattle.protocol_write.specs.Inner.Checking.{laid_as, LaidAt}
+use Rattle.protocol.specs.declared.message.RowKind.TheVariants.{Predicate}
+use Rattle.protocol_write.specs.Inner.Checking.{row_count, laid_as, LaidAt}
+use Rattle.protocol_write.proofs.RowLoops.{head, others, count_next, none_left}
+use Rattle.protocol_write.proofs.RowsSame.{type_same, types_same}
 use Rattle.std.specs.Prelude.{Ok, Err, Result, Some, None}
 use Rattle.varint.specs.declared.error.Refusal.{Refusal}
 
@@ -87,29 +90,33 @@ type_layout limit rs nd r n =
     refl
 
 -- one turn over the types
-module _ (limit : ℕ) (rs nd : List ℕ) where
-  laid_turn : (left r n : ℕ) → 0 < left → types_laid limit rs nd left r n ≡ then_held (type_laid limit rs nd r n) (λ m. types_laid limit rs nd (left - 1) (r + 6) m)
-  unfolding types_laid
-  laid_turn zero r n p = absurd (omega arith)
-  laid_turn (suc left) r n p = let l : suc left - 1 ≡ left = omega arith in rw l
+module _ (limit : ℕ) (nd : List ℕ) where
+  module _ (rs x rest : List ℕ) (size : ℕ) (is : rs ≡ x ++ rest) (long : length x ≡ size) (whole : size ≡ 6) where
+    laid_turn : (n : ℕ) → types_laid limit rs nd (row_count Predicate rs) 0 n
+        ≡ then_held (type_laid limit x nd 0 n) (λ m. types_laid limit rest nd (row_count Predicate rest) 0 m)
+    unfolding types_laid
+    laid_turn n =
+        let k = row_count Predicate rest in
+        rw (count_next Predicate rs x rest size is long whole, type_same limit nd n (head Predicate rs x rest size is long whole))
+        (λ i. then_held (type_laid limit x nd 0 n) (λ m. types_same limit nd k (0 + 6) 0 m (others Predicate rs x rest size is long whole (k * 6)) i))
 
-  pub type_next : (left r n m : ℕ) → 0 < left → Some m ≡ laid_as (type_laid limit rs nd r n) → types_laid limit rs nd left r n ≡ types_laid limit rs nd (left - 1) (r + 6) m
-  unfolding laid_as
-  type_next left r n m p h = laid_turn left r n p ∙ go (type_laid limit rs nd r n) h
-    where
-      go : (H : Held ℕ) → Some m ≡ laid_as H → then_held H (λ k. types_laid limit rs nd (left - 1) (r + 6) k) ≡ types_laid limit rs nd (left - 1) (r + 6) m
-      go (held k) e = let q : k ≡ m = cc in rw q
-      go (lacks x) e = never cc
+    pub type_next : (n m : ℕ) → laid_as (type_laid limit x nd 0 n) ≡ Some m
+        → types_laid limit rs nd (row_count Predicate rs) 0 n ≡ types_laid limit rest nd (row_count Predicate rest) 0 m
+    unfolding laid_as
+    type_next n m h = laid_turn n ∙ go (type_laid limit x nd 0 n) h
+      where
+        go : (H : Held ℕ) → laid_as H ≡ Some m → then_held H (λ k. types_laid limit rest nd (row_count Predicate rest) 0 k) ≡ types_laid limit rest nd (row_count Predicate rest) 0 m
+        go (held k) e = let q : k ≡ m = cc in rw q
+        go (lacks e) h = never cc
 
-  pub type_wrong : (left r n : ℕ) → 0 < left → None ≡ laid_as (type_laid limit rs nd r n) → verdict (types_laid limit rs nd left r n) ≡ Err (BadMessage Layout)
-  unfolding laid_as verdict
-  type_wrong left r n p h = ap verdict (laid_turn left r n p) ∙ go (type_laid limit rs nd r n) (type_layout limit rs nd r n) h
-    where
-      go : (H : Held ℕ) → LayoutOnly H → None ≡ laid_as H → verdict (then_held H (λ k. types_laid limit rs nd (left - 1) (r + 6) k)) ≡ Err (BadMessage Layout)
-      go (held k) l e = never cc
-      go (lacks x) l e = rw l
+    pub type_wrong : (n : ℕ) → laid_as (type_laid limit x nd 0 n) ≡ None → verdict (types_laid limit rs nd (row_count Predicate rs) 0 n) ≡ Err (BadMessage Layout)
+    unfolding laid_as verdict
+    type_wrong n h = ap verdict (laid_turn n) ∙ go (type_laid limit x nd 0 n) (type_layout limit x nd 0 n) h
+      where
+        go : (H : Held ℕ) → LayoutOnly H → laid_as H ≡ None → verdict (then_held H (λ k. types_laid limit rest nd (row_count Predicate rest) 0 k)) ≡ Err (BadMessage Layout)
+        go (held k) l e = never cc
+        go (lacks e) l h = rw l
 
-  pub laid_end : (left r n : ℕ) → left ≤ 0 → Ok tt ≡ verdict (types_laid limit rs nd left r n)
+  pub laid_end : (rest : List ℕ) (n : ℕ) → length rest < 6 → Ok tt ≡ verdict (types_laid limit rest nd (row_count Predicate rest) 0 n)
   unfolding types_laid verdict
-  laid_end zero r n h = refl
-  laid_end (suc left) r n h = absurd (omega arith)
+  laid_end rest n short = rw (none_left Predicate rest short)

@@ -22,7 +22,9 @@ use Rattle.protocol.specs.Startup.{Claim, claim, held_claim}
 use Rattle.protocol.specs.Types.{Predicate, predicate, held_predicate}
 use Rattle.protocol.specs.declared.message.RowKind.{RowKind}
 use Rattle.protocol.specs.declared.message.RowKind.TheVariants as K
-use Rattle.protocol_write.specs.Inner.Writing.{put_flag, put_at, put_pair, put_labelled, put_step, put_value, put_type, put_row, put_counted}
+use Rattle.std.specs.Prelude.{Some, None}
+use Rattle.protocol_write.specs.Inner.Checking.{value_root}
+use Rattle.protocol_write.specs.Inner.Writing.{put_pair, put_labelled, put_step, put_value, put_type, put_row, put_counted}
 use Rattle.protocol_write.proofs.Printing.{took, held_same, Prints, prints_then, prints_number, number_same, prints_past, prints_two, prints_flag, prints_wide, prints_text, prints_tree, times_length, prints_rows}
 
 module _ (limit : ℕ) (tx rs nd : List ℕ) where
@@ -68,12 +70,12 @@ module _ (limit : ℕ) (tx rs nd : List ℕ) where
 
   -- by whether there is one
   value_prints : (has key : ℕ) (v : Optional (Tree (List ℕ))) → value_held has key ≡ held v
-      → Prints (put_value limit tx nd has key) (print_optional (descriptor true 0) v)
-  unfolding put_value
+      → Prints (put_value limit tx nd (value_root nd has key)) (print_optional (descriptor true 0) v)
+  unfolding put_value value_root
   value_prints has key v e = go (yes has) e
     where
       go : (b : Bool) → pick b (then_held (held_in (table limit nd (cell nd key 6) 0) tx) (λ u. held (present u))) (held absent) ≡ held v
-          → Prints (λ s. pick b (put_at tx (table limit nd (cell nd key 6) 0) (put_flag b s)) (put_flag b s)) (print_optional (descriptor true 0) v)
+          → Prints (put_value limit tx nd (pick b (Some (cell nd key 6)) None)) (print_optional (descriptor true 0) v)
       go true h =
           let a = took (held_in (table limit nd (cell nd key 6) 0) tx) (λ u. held (present u)) v h in
           let q : present a.value ≡ v = held_same a.rest in

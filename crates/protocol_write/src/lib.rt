@@ -26,11 +26,11 @@ use write::write_message;
 fn size_message(message: &Message, lent: &Lent<'_>) -> usize
     ensures { result ≡ size_of lent.now.limit message.now lent.now.text.now lent.now.rows.now lent.now.nodes.now }
 {
-    let mut scratch = [0u8; 1];
-    write_message(message, lent, &mut scratch)
+    write_message(message, lent, &mut [])
 }
 
-// The longest payload and the depth of descriptors are parameters. A size of 2^64−1 may stand for a greater one, and is over any `max` there is.
+// The longest payload and the depth of descriptors are parameters, so that it is proved for any. A size of 2^64−1 may stand for a greater one, and is over any `max` there is.
+#[tactic(auto, using(crate::proofs::Encodes::encode_refused, crate::proofs::Encodes::encode_big, crate::proofs::Encodes::encode_small))]
 fn encode_within(message: &Message, max: u64, lent: &Lent<'_>, out: &mut [u8]) -> Written
     requires { max ≤ 4294967296 }
     ensures { record { answer = result; out = out.new } ≡ encode_message max lent.now.limit message.now lent.now.text.now lent.now.rows.now lent.now.nodes.now out.old }
@@ -38,10 +38,7 @@ fn encode_within(message: &Message, max: u64, lent: &Lent<'_>, out: &mut [u8]) -
     check_message(message, lent)?;
     let size = size_message(message, lent);
     if max < size as u64 {
-        return Err(Refusal::BlockTooLarge {
-            declared: size as u64,
-            max,
-        });
+        return Err(Refusal::too_large(size as u64, max));
     }
     if out.len() < size {
         return Err(Refusal::too_small(Buffer::Out, size));
@@ -51,20 +48,21 @@ fn encode_within(message: &Message, max: u64, lent: &Lent<'_>, out: &mut [u8]) -
     Ok(size)
 }
 
-// Writes the payload of a message from the lent memory that it points into, and zeros after it; or a refusal, and nothing is written.
+// Writes the payload of a message from the lent memory that it points into, and zeros after it; or a refusal, and nothing is written. Text, rows and nodes
+// come one by one, as C lends them.
 pub fn encode(message: Message, text: &[u8], rows: &[u64], nodes: &[u64], out: &mut [u8]) -> Written
     ensures { record { answer = result; out = out.new } ≡ encode_message 67108864 64 message text.now rows.now nodes.now out.old }
 {
-    let lent = &Lent {
+    let lent = Lent {
         limit: MAX_DEPTH,
         text,
         rows,
         nodes,
     };
-    encode_within(&message, MAX_PAYLOAD, lent, out)
+    encode_within(&message, MAX_PAYLOAD, &lent, out)
 }
 
-// The same for each message by its fields.
+// The same for each message by its fields, for who sends one kind alone: each is one call.
 pub fn encode_startup(
     version: u32,
     database: Span,

@@ -1,21 +1,22 @@
-// How an encoder tests and writes a row of each kind. Each kind is a type, so that the loops over rows have no switch in them.
-#![tactic(auto, unfolding(crate::specs::Inner::Checking::row_good, crate::specs::Inner::Checking::nodes_fine, crate::specs::Inner::Checking::row_names, crate::specs::Inner::Writing::put_row, crate::specs::Inner::Writing::put_pair, crate::specs::Inner::Writing::put_step, crate::specs::Inner::Writing::put_type, desc::specs::Emitting::then_names, protocol::specs::Profile::step_numbers, protocol::specs::Types::type_numbers))]
-
-ghost use Rattle.std.specs.Prelude.{◌≡◌, ◌*◌, ◌≤◌, length};
+// How an encoder tests and writes a row of each kind. Each kind is a type, so that the loops over rows have no switch in them; a kind has only the
+// tests that it needs. A row is the slice that `chunks_exact` gives, and its length is asked for: a struct of it would be made in every loop.
+ghost use Rattle.std.specs.Prelude.{◌≡◌, ◌+◌, ◌<◌, length, get_or};
 ghost use Rattle.protocol.specs.Rows.{width_of};
-ghost use Rattle.protocol_write.specs.Inner.Checking.{row_good, nodes_fine, RowLaid, row_names};
+ghost use Rattle.protocol_write.specs.Inner.Checking.{row_good, RowLaid, row_names, value_root};
 ghost use Rattle.protocol_write.specs.Inner.Writing.{Writes, put_row};
 
-use crate::checks::{check_desc, check_label, check_value, types_laid};
+use crate::checks::{check_desc, check_value};
 use crate::columns;
 use crate::lent::Lent;
 use crate::write::Writer;
+use desc::node;
+use desc::node::read_cell;
 use desc::write::check_name;
-use protocol::message::{Claim, Id, Pair, Predicate, Row, Step};
+use protocol::message::{Claim, Id, Pair, Predicate, Row, SEQUENCES, Span, Step};
 use varint::MAX_U32;
 use varint::error::Refusal;
 
-// A row that starts at number `r`, by its kind.
+// A row of a kind, as its numbers.
 pub(crate) trait SentRow: Row {
     // How many numbers it has.
     final fn width() -> usize
@@ -24,133 +25,128 @@ pub(crate) trait SentRow: Row {
         Self::KIND.width()
     }
 
+    fn write(row: &[u64], writer: &mut Writer<'_>)
+        requires { length row.now ≡ width_of Self.KIND }
+        ensures { Writes (put_row Self.KIND writer.old.lent.now.limit writer.old.lent.now.text.now row.now writer.old.lent.now.nodes.now 0) writer.old writer.new };
+}
+
+// A row with numbers of which a message may not have all.
+pub(crate) trait BoundedRow: SentRow {
     // May a message have its numbers?
-    fn good(lent: Lent<'_>, r: usize) -> bool
-        ensures { result ≡ row_good Self.KIND lent.entry.rows.now r };
+    fn good(row: &[u64]) -> bool
+        requires { length row.now ≡ width_of Self.KIND }
+        ensures { result ≡ row_good Self.KIND row.now 0 };
+}
 
-    // Are the nodes of all rows laid out?
-    fn laid(lent: Lent<'_>, count: u64) -> Result<(), Refusal>
-        requires { count * width_of Self.KIND ≤ length lent.rows.now }
-        ensures { result ≡ nodes_fine Self.KIND lent.entry.limit lent.entry.rows.now lent.entry.nodes.now count };
-
+// A row with texts.
+pub(crate) trait NamedRow: SentRow {
     // Its texts.
-    fn check(lent: Lent<'_>, r: usize) -> Result<(), Refusal>
-        requires { RowLaid Self.KIND lent.limit lent.rows.now lent.nodes.now r }
-        ensures { result ≡ row_names Self.KIND lent.entry.limit lent.entry.text.now lent.entry.rows.now lent.entry.nodes.now r };
+    fn check(lent: &Lent<'_>, row: &[u64]) -> Result<(), Refusal>
+        requires whole { length row.now ≡ width_of Self.KIND }
+        requires laid { RowLaid Self.KIND lent.now.limit row.now lent.now.nodes.now 0 }
+        ensures { result ≡ row_names Self.KIND lent.now.limit lent.now.text.now row.now lent.now.nodes.now 0 };
+}
 
-    fn write(lent: Lent<'_>, r: usize, writer: &mut Writer<'_>)
-        ensures { Writes (put_row Self.KIND lent.entry.limit lent.entry.text.now lent.entry.rows.now lent.entry.nodes.now r) writer.old writer.new };
+// The text whose place and length stand in a row from number `k` on.
+pub(crate) fn span_at(row: &[u64], k: usize) -> Span
+    requires { k + 1 < length row.now }
+    ensures { result ≡ record { start = get_or row.now k 0; len = get_or row.now (k + 1) 0 } }
+{
+    Span::of(row[k], row[k + 1])
+}
+
+// The root of a type's value, where the type has one: the node after its key.
+#[tactic(auto, unfolding(crate::specs::Inner::Checking::value_root))]
+fn value_root(nodes: &[u64], row: &[u64]) -> Option<usize>
+    requires { 5 < length row.now }
+    ensures { result ≡ value_root nodes.now (get_or row.now 4 0) (get_or row.now 5 0) }
+{
+    if row[columns::TYPE_VALUE] == 0 {
+        return None;
+    }
+    let key = row[columns::TYPE_KEY];
+    let root = read_cell(nodes, key as usize, node::END);
+    Some(root as usize)
 }
 
 impl SentRow for Claim {
-    fn good(_lent: Lent<'_>, _r: usize) -> bool {
-        true
+    #[tactic(auto, unfolding(crate::specs::Inner::Writing::put_row))]
+    fn write(row: &[u64], writer: &mut Writer<'_>) {
+        writer.labelled(row);
     }
+}
 
-    fn laid(_lent: Lent<'_>, _count: u64) -> Result<(), Refusal> {
-        Ok(())
-    }
-
-    fn check(lent: Lent<'_>, r: usize) -> Result<(), Refusal> {
-        check_label(lent, r)
-    }
-
-    fn write(lent: Lent<'_>, r: usize, writer: &mut Writer<'_>) {
-        writer.labelled(lent, r);
+impl NamedRow for Claim {
+    #[tactic(auto, unfolding(crate::specs::Inner::Checking::row_names))]
+    fn check(lent: &Lent<'_>, row: &[u64]) -> Result<(), Refusal> {
+        check_name(lent.text, span_at(row, columns::LABEL_NAME))
     }
 }
 
 impl SentRow for Id {
-    fn good(_lent: Lent<'_>, _r: usize) -> bool {
-        true
-    }
-
-    fn laid(_lent: Lent<'_>, _count: u64) -> Result<(), Refusal> {
-        Ok(())
-    }
-
-    fn check(_lent: Lent<'_>, _r: usize) -> Result<(), Refusal> {
-        Ok(())
-    }
-
-    fn write(lent: Lent<'_>, r: usize, writer: &mut Writer<'_>) {
-        writer.varint(lent.number_at(r, 0));
+    #[tactic(auto, unfolding(crate::specs::Inner::Writing::put_row))]
+    fn write(row: &[u64], writer: &mut Writer<'_>) {
+        writer.varint(row[columns::ID]);
     }
 }
 
 impl SentRow for Predicate {
-    fn good(lent: Lent<'_>, r: usize) -> bool {
-        let id = lent.number_at(r, columns::TYPE_ID);
-        let virtual_flag = lent.number_at(r, columns::TYPE_VIRTUAL);
-        let value_flag = lent.number_at(r, columns::TYPE_VALUE);
-        (id <= MAX_U32) & (virtual_flag <= 1) & (value_flag <= 1)
+    #[tactic(auto, unfolding(crate::specs::Inner::Writing::put_row, crate::specs::Inner::Writing::put_type))]
+    fn write(row: &[u64], writer: &mut Writer<'_>) {
+        writer.varint(row[columns::TYPE_ID]);
+        writer.text(span_at(row, columns::TYPE_NAME));
+        writer.flag(row[columns::TYPE_VIRTUAL] != 0);
+        writer.desc(row[columns::TYPE_KEY] as usize);
+        writer.value(value_root(writer.lent.nodes, row));
     }
+}
 
-    fn laid(lent: Lent<'_>, count: u64) -> Result<(), Refusal> {
-        types_laid(lent, count)
+impl BoundedRow for Predicate {
+    #[tactic(auto, unfolding(crate::specs::Inner::Checking::row_good, protocol::specs::Types::type_numbers))]
+    fn good(row: &[u64]) -> bool {
+        (row[columns::TYPE_ID] <= MAX_U32)
+            & (row[columns::TYPE_VIRTUAL] <= 1)
+            & (row[columns::TYPE_VALUE] <= 1)
     }
+}
 
-    fn check(lent: Lent<'_>, r: usize) -> Result<(), Refusal> {
-        let start = lent.number_at(r, columns::TYPE_START);
-        let len = lent.number_at(r, columns::TYPE_LEN);
-        let has = lent.number_at(r, columns::TYPE_VALUE);
-        let key = lent.number_at(r, columns::TYPE_KEY);
-        check_name(lent.text, start as usize, len as usize)?;
-        check_desc(lent, key as usize)?;
-        check_value(lent, has, key as usize)
-    }
-
-    fn write(lent: Lent<'_>, r: usize, writer: &mut Writer<'_>) {
-        let id = lent.number_at(r, columns::TYPE_ID);
-        let start = lent.number_at(r, columns::TYPE_START);
-        let len = lent.number_at(r, columns::TYPE_LEN);
-        let virtual_flag = lent.number_at(r, columns::TYPE_VIRTUAL);
-        let has = lent.number_at(r, columns::TYPE_VALUE);
-        let key = lent.number_at(r, columns::TYPE_KEY);
-        writer.varint(id);
-        writer.text(lent.text, start, len);
-        writer.flag(virtual_flag != 0);
-        writer.desc(lent, key as usize);
-        writer.value(lent, has, key as usize);
+impl NamedRow for Predicate {
+    #[tactic(auto, unfolding(crate::specs::Inner::Checking::row_names, desc::specs::Emitting::then_names))]
+    fn check(lent: &Lent<'_>, row: &[u64]) -> Result<(), Refusal> {
+        check_name(lent.text, span_at(row, columns::TYPE_NAME))?;
+        check_desc(lent, row[columns::TYPE_KEY] as usize)?;
+        check_value(lent, value_root(lent.nodes, row))
     }
 }
 
 impl SentRow for Step {
-    fn good(lent: Lent<'_>, r: usize) -> bool {
-        lent.number_at(r, columns::STEP_SCAN) <= 1
-    }
-
-    fn laid(_lent: Lent<'_>, _count: u64) -> Result<(), Refusal> {
-        Ok(())
-    }
-
-    fn check(lent: Lent<'_>, r: usize) -> Result<(), Refusal> {
-        check_label(lent, r)
-    }
-
-    fn write(lent: Lent<'_>, r: usize, writer: &mut Writer<'_>) {
-        let scan = lent.number_at(r, columns::STEP_SCAN);
-        writer.labelled(lent, r);
+    #[tactic(auto, unfolding(crate::specs::Inner::Writing::put_row, crate::specs::Inner::Writing::put_step))]
+    fn write(row: &[u64], writer: &mut Writer<'_>) {
+        let scan = row[columns::STEP_SCAN];
+        writer.labelled(row);
         writer.flag(scan != 0);
+    }
+}
+
+impl BoundedRow for Step {
+    #[tactic(auto, unfolding(crate::specs::Inner::Checking::row_good))]
+    fn good(row: &[u64]) -> bool {
+        row[columns::STEP_SCAN] <= 1
+    }
+}
+
+impl NamedRow for Step {
+    #[tactic(auto, unfolding(crate::specs::Inner::Checking::row_names))]
+    fn check(lent: &Lent<'_>, row: &[u64]) -> Result<(), Refusal> {
+        check_name(lent.text, span_at(row, columns::LABEL_NAME))
     }
 }
 
 // An id's two halves.
 impl SentRow for Pair {
-    fn good(_lent: Lent<'_>, _r: usize) -> bool {
-        true
-    }
-
-    fn laid(_lent: Lent<'_>, _count: u64) -> Result<(), Refusal> {
-        Ok(())
-    }
-
-    fn check(_lent: Lent<'_>, _r: usize) -> Result<(), Refusal> {
-        Ok(())
-    }
-
-    fn write(lent: Lent<'_>, r: usize, writer: &mut Writer<'_>) {
-        let id = lent.number_at(r, 0);
-        writer.two(id / 0x100_0000_0000, id % 0x100_0000_0000);
+    #[tactic(auto, unfolding(crate::specs::Inner::Writing::put_row, crate::specs::Inner::Writing::put_pair))]
+    fn write(row: &[u64], writer: &mut Writer<'_>) {
+        let id = row[columns::ID];
+        writer.two(id / SEQUENCES, id % SEQUENCES);
     }
 }

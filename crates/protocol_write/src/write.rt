@@ -1,24 +1,26 @@
-// Writing a message into a buffer. Nothing is tested here.
-ghost use Rattle.std.specs.Prelude.{◌≡◌, ◌≤◌, ◌*◌, length};
+// Writing a message into a buffer. Nothing of it is tested here but that its rows are there: others are not written.
+ghost use Rattle.std.specs.Prelude.{◌≡◌, ◌<◌, ◌≤◌, length};
 ghost use Rattle.desc.specs.Emitting.{put_name, put_number};
 ghost use Rattle.desc.specs.Table.{table};
-ghost use Rattle.protocol.specs.Rows.{width_of};
+ghost use Rattle.protocol_write.specs.Inner.Checking.{row_count};
 ghost use Rattle.protocol_write.specs.Inner.Writing.{Writes, put_byte, put_flag, put_fixed, put_two, put_text, put_at, put_labelled, put_value, put_rows, put_counted, put_tagged, put_startup, put_control, put_finished, put_reply, put_page, put_digest, put_message};
 
-use crate::checks::few_rows;
+use crate::checks::first_rows;
 use crate::columns;
 use crate::lent::Lent;
-use crate::rows::SentRow;
-use desc::node;
-use desc::node::read_cell;
-use desc::write::{plus, put_desc, put_name, put_number};
-use protocol::message::{Claim, ControlOp, ControlReply, Id, Message, Pair, Predicate, Span, Step};
+use crate::rows::{SentRow, span_at};
+use desc::write::{put_desc, put_name, put_number};
+use protocol::message::{
+    Claim, ControlOp, ControlReply, Id, Message, Mode, Pair, Predicate, Span, Step,
+};
 use varint::store::{copy_bytes, store};
 
-// A buffer and how far it is written. What lies past the buffer's end is not stored, and the place still moves on, so with a buffer of one byte
-// this tells the size.
+// What is written, a buffer, and how far it is written. desc has one too, for its walk over a descriptor, and messages need steps of their own, for
+// which a trait over that one would be as long. What lies past the buffer's end is not stored, and the place still moves on, so with no buffer this
+// tells the size.
 #[derive(Drop)]
 pub(crate) struct Writer<'a> {
+    pub(crate) lent: &'a Lent<'a>,
     out: &'a mut [u8],
     at: usize,
 }
@@ -29,7 +31,7 @@ impl Writer<'_> {
         ensures { Writes (put_byte b) self.old self.new }
     {
         store(self.out, self.at, b);
-        self.at = plus(self.at, 1);
+        self.at = self.at.saturating_add(1);
     }
 
     #[tactic(auto, unfolding(crate::specs::Inner::Writing::put_flag))]
@@ -46,7 +48,7 @@ impl Writer<'_> {
         ensures { Writes (put_fixed N v) self.old self.new }
     {
         copy_bytes(&v.to_le_bytes(), 0, N, self.out, self.at);
-        self.at = plus(self.at, N);
+        self.at = self.at.saturating_add(N);
     }
 
     // Inlined, like `two`, so that the place stays in a register where rows are looped over.
@@ -66,111 +68,99 @@ impl Writer<'_> {
         self.varint(w);
     }
 
-    fn raw(&mut self, text: &[u8], span: Span)
-        ensures { Writes (put_name text.now (span.start, span.len)) self.old self.new }
+    fn raw(&mut self, span: Span)
+        ensures { Writes (put_name self.old.lent.now.text.now (span.start, span.len)) self.old self.new }
     {
-        self.at = put_name(
-            text,
-            span.start as usize,
-            span.len as usize,
-            self.out,
-            self.at,
-        );
+        self.at = put_name(self.lent.text, span, self.out, self.at);
     }
 
     #[tactic(auto, unfolding(crate::specs::Inner::Writing::put_text))]
-    pub(crate) fn text(&mut self, text: &[u8], start: u64, len: u64)
-        ensures { Writes (put_text text.now start len) self.old self.new }
+    pub(crate) fn text(&mut self, span: Span)
+        ensures { Writes (put_text self.old.lent.now.text.now span.start span.len) self.old self.new }
     {
-        self.varint(len);
-        self.at = put_name(text, start as usize, len as usize, self.out, self.at);
+        self.varint(span.len as u64);
+        self.raw(span);
     }
 
     // The descriptor whose root is node `n`.
     #[tactic(auto, unfolding(crate::specs::Inner::Writing::put_at, desc::specs::Emitting::put_desc))]
-    pub(crate) fn desc(&mut self, lent: Lent<'_>, n: usize)
-        ensures { Writes (put_at lent.entry.text.now (table lent.entry.limit lent.entry.nodes.now n 0)) self.old self.new }
+    pub(crate) fn desc(&mut self, n: usize)
+        ensures { Writes (put_at self.old.lent.now.text.now (table self.old.lent.now.limit self.old.lent.now.nodes.now n 0)) self.old self.new }
     {
+        let lent = self.lent;
         if let Some(emitted) = put_desc(lent.text, lent.nodes, n, lent.limit, self.out, self.at) {
             self.at = emitted.place;
         }
     }
 
-    // Whether a type has a value, and the value: its root is the node after its key, whose root is node `key`.
+    // Whether a type has a value, and the value, whose root is node `root`.
     #[tactic(auto, unfolding(crate::specs::Inner::Writing::put_value))]
-    pub(crate) fn value(&mut self, lent: Lent<'_>, has: u64, key: usize)
-        ensures { Writes (put_value lent.entry.limit lent.entry.text.now lent.entry.nodes.now has key) self.old self.new }
+    pub(crate) fn value(&mut self, root: Option<usize>)
+        ensures { Writes (put_value self.old.lent.now.limit self.old.lent.now.text.now self.old.lent.now.nodes.now root) self.old self.new }
     {
-        self.flag(has != 0);
-        if has != 0 {
-            let root = read_cell(lent.nodes, key, node::END);
-            self.desc(lent, root as usize);
+        self.flag(root.is_some());
+        if let Some(n) = root {
+            self.desc(n);
         }
     }
 
-    // The text of the claim or the step whose row starts at number `r`, and the number after it.
+    // The text of a claim or a step, and the number after it.
     #[tactic(auto, unfolding(crate::specs::Inner::Writing::put_labelled))]
-    pub(crate) fn labelled(&mut self, lent: Lent<'_>, r: usize)
-        ensures { Writes (put_labelled lent.entry.text.now lent.entry.rows.now r) self.old self.new }
+    pub(crate) fn labelled(&mut self, row: &[u64])
+        requires { 2 < length row.now }
+        ensures { Writes (put_labelled self.old.lent.now.text.now row.now 0) self.old self.new }
     {
-        let start = lent.number_at(r, columns::LABEL_START);
-        let len = lent.number_at(r, columns::LABEL_LEN);
-        let v = lent.number_at(r, columns::LABEL_NUMBER);
-        self.text(lent.text, start, len);
-        self.varint(v);
+        self.text(span_at(row, columns::LABEL_NAME));
+        self.varint(row[columns::LABEL_NUMBER]);
     }
 
-    fn rows<R: SentRow>(&mut self, lent: Lent<'_>, count: u64)
-        requires { count * width_of R.KIND ≤ length lent.rows.now }
-        ensures { Writes (put_rows R.KIND lent.entry.limit lent.entry.text.now lent.entry.rows.now lent.entry.nodes.now count 0) self.old self.new }
+    #[tactic(auto, using(crate::proofs::RowLoops::put_turn, crate::proofs::RowLoops::put_end))]
+    fn rows<R: SentRow>(&mut self, rows: &[u64])
+        ensures { Writes (put_rows R.KIND self.old.lent.now.limit self.old.lent.now.text.now rows.now self.old.lent.now.nodes.now (row_count R.KIND rows.now) 0) self.old self.new }
     {
-        let width = R::width();
-        let mut r: usize = 0;
-        for _ in 0..count {
-            R::write(lent, r, self);
-            r += width;
+        for row in rows.chunks_exact(R::width()) {
+            R::write(row, self);
         }
     }
 
     // A count and so many rows.
-    #[tactic(auto, unfolding(crate::specs::Inner::Writing::put_counted))]
-    fn counted<R: SentRow>(&mut self, lent: Lent<'_>, count: u64)
-        ensures { Writes (put_counted R.KIND lent.entry.limit lent.entry.text.now lent.entry.rows.now lent.entry.nodes.now count) self.old self.new }
+    #[tactic(auto, unfolding(crate::specs::Inner::Writing::put_counted, crate::specs::Inner::Checking::there), using(crate::proofs::RowLoops::cut_put))]
+    fn counted<R: SentRow>(&mut self, count: u64)
+        ensures { Writes (put_counted R.KIND self.old.lent.now.limit self.old.lent.now.text.now self.old.lent.now.rows.now self.old.lent.now.nodes.now count) self.old self.new }
     {
-        if few_rows(R::KIND, lent.rows, count) {
-            return;
+        if let Ok(rows) = first_rows::<R>(self.lent.rows, count) {
+            self.varint(count);
+            self.rows::<R>(rows);
         }
-        self.varint(count);
-        self.rows::<R>(lent, count);
     }
 
     // A byte and a text.
     #[tactic(auto, unfolding(crate::specs::Inner::Writing::put_tagged))]
-    fn tagged(&mut self, b: u8, span: Span, text: &[u8])
-        ensures { Writes (put_tagged b span text.now) self.old self.new }
+    fn tagged(&mut self, b: u8, span: Span)
+        ensures { Writes (put_tagged b span self.old.lent.now.text.now) self.old self.new }
     {
         self.push(b);
-        self.text(text, span.start, span.len);
+        self.text(span);
     }
 
     // A startup up to its claims.
     #[tactic(auto, unfolding(crate::specs::Inner::Writing::put_startup))]
-    fn startup(&mut self, version: u32, database: Span, mode: u8, fingerprint: u64, text: &[u8])
-        ensures { Writes (put_startup version database mode fingerprint text.now) self.old self.new }
+    fn startup(&mut self, version: u32, database: Span, mode: Mode, fingerprint: u64)
+        ensures { Writes (put_startup version database mode fingerprint self.old.lent.now.text.now) self.old self.new }
     {
-        self.varint(version as u64);
-        self.text(text, database.start, database.len);
-        self.push(mode);
+        self.varint(u64::from(version));
+        self.text(database);
+        self.push(u8::from(mode));
         self.varint(fingerprint);
     }
 
     #[tactic(auto, unfolding(crate::specs::Inner::Writing::put_control))]
-    fn control(&mut self, op: u8, database: Span, allow: bool, schema: Span, text: &[u8])
-        ensures { Writes (put_control op database allow schema text.now) self.old self.new }
+    fn control(&mut self, op: ControlOp, database: Span, allow: bool, schema: Span)
+        ensures { Writes (put_control op database allow schema self.old.lent.now.text.now) self.old self.new }
     {
-        self.tagged(op, database, text);
+        self.tagged(u8::from(op), database);
         self.flag(allow);
-        self.text(text, schema.start, schema.len);
+        self.text(schema);
     }
 
     #[tactic(auto, unfolding(crate::specs::Inner::Writing::put_finished))]
@@ -184,12 +174,12 @@ impl Writer<'_> {
     }
 
     #[tactic(auto, unfolding(crate::specs::Inner::Writing::put_reply))]
-    fn reply(&mut self, reply: ControlReply, text: &[u8])
-        ensures { Writes (put_reply reply text.now) self.old self.new }
+    fn reply(&mut self, reply: ControlReply)
+        ensures { Writes (put_reply reply self.old.lent.now.text.now) self.old self.new }
     {
         match reply {
             ControlReply::Created { instance } => {
-                self.tagged(u8::from(ControlOp::Create), instance, text)
+                self.tagged(u8::from(ControlOp::Create), instance)
             }
             ControlReply::Finished {
                 fingerprint,
@@ -202,23 +192,23 @@ impl Writer<'_> {
     }
 
     #[tactic(auto, unfolding(crate::specs::Inner::Writing::put_page))]
-    fn page(&mut self, most: u64, cursor: Span, query: Span, text: &[u8])
-        ensures { Writes (put_page most cursor query text.now) self.old self.new }
+    fn page(&mut self, most: u64, cursor: Span, query: Span)
+        ensures { Writes (put_page most cursor query self.old.lent.now.text.now) self.old self.new }
     {
         self.fixed::<8>(most);
-        self.fixed::<4>(cursor.len);
-        self.raw(text, cursor);
-        self.raw(text, query);
+        self.fixed::<4>(cursor.len as u64);
+        self.raw(cursor);
+        self.raw(query);
     }
 
-    #[tactic(auto, unfolding(crate::specs::Inner::Writing::put_digest))]
+    #[tactic(auto, unfolding(crate::specs::Inner::Writing::put_digest, crate::specs::Inner::Writing::put_flag))]
     fn digest(&mut self, digest: Option<u64>)
         ensures { Writes (put_digest digest) self.old self.new }
     {
         match digest {
-            None => self.push(0),
+            None => self.flag(false),
             Some(d) => {
-                self.push(1);
+                self.flag(true);
                 self.varint(d);
             }
         }
@@ -230,7 +220,7 @@ impl Writer<'_> {
 pub(crate) fn write_message(message: &Message, lent: &Lent<'_>, out: &mut [u8]) -> usize
     ensures { record { out = out.new; place = result } ≡ put_message lent.now.limit message.now lent.now.text.now lent.now.rows.now lent.now.nodes.now (record { out = out.old; place = 0 }) }
 {
-    let mut writer = Writer { out, at: 0 };
+    let mut writer = Writer { lent, out, at: 0 };
     match *message {
         Message::Startup {
             version,
@@ -239,46 +229,40 @@ pub(crate) fn write_message(message: &Message, lent: &Lent<'_>, out: &mut [u8]) 
             schema_fingerprint,
             claims,
         } => {
-            writer.startup(
-                version,
-                database,
-                u8::from(mode),
-                schema_fingerprint,
-                lent.text,
-            );
-            writer.counted::<Claim>(*lent, claims)
+            writer.startup(version, database, mode, schema_fingerprint);
+            writer.counted::<Claim>(claims)
         }
         Message::Ready {
             version,
             schema_fingerprint,
             predicates,
         } => {
-            writer.two(version as u64, schema_fingerprint);
+            writer.two(u64::from(version), schema_fingerprint);
             writer.varint(predicates)
         }
-        Message::Error { code, text: span } => writer.tagged(u8::from(code), span, lent.text),
+        Message::Error { code, text: span } => writer.tagged(u8::from(code), span),
         Message::Complete { first, second } => writer.two(first, second),
-        Message::Ids { count } => writer.counted::<Id>(*lent, count),
-        Message::Types { count } => writer.counted::<Predicate>(*lent, count),
+        Message::Ids { count } => writer.counted::<Id>(count),
+        Message::Types { count } => writer.counted::<Predicate>(count),
         Message::Control {
             op,
             database,
             allow_zero_facts,
             schema,
-        } => writer.control(u8::from(op), database, allow_zero_facts, schema, lent.text),
-        Message::Reply(reply) => writer.reply(reply, lent.text),
-        Message::Profile { steps } => writer.counted::<Step>(*lent, steps),
+        } => writer.control(op, database, allow_zero_facts, schema),
+        Message::Reply(reply) => writer.reply(reply),
+        Message::Profile { steps } => writer.counted::<Step>(steps),
         Message::Page {
             limit: most,
             cursor,
             query,
-        } => writer.page(most, cursor, query, lent.text),
+        } => writer.page(most, cursor, query),
         Message::Fetch { digest, count } => {
             writer.digest(digest);
-            writer.counted::<Pair>(*lent, count)
+            writer.counted::<Pair>(count)
         }
-        Message::ListingDigest { predicate, digest } => writer.two(predicate as u64, digest),
-        Message::Opaque { payload } => writer.raw(lent.text, payload),
+        Message::ListingDigest { predicate, digest } => writer.two(u64::from(predicate), digest),
+        Message::Opaque { payload } => writer.raw(payload),
     }
     writer.at
 }

@@ -1,5 +1,5 @@
 -- What an encoder looks at before it writes, as the code has it: 19(2), 19(4), 19(3), then the texts in reading order.
-use Rattle.std.specs.Prelude.{Bool, true, ◌≡◌, refl, List, [], ◌∷◌, ℕ, zero, suc, ◌+◌, ◌*◌, ltb, length, get_or, Ok, Result, Err, Some, None, Option}
+use Rattle.std.specs.Prelude.{Bool, true, ◌≡◌, refl, List, [], ◌∷◌, ℕ, zero, suc, ◌+◌, ◌*◌, ◌/◌, ◌≤◌, ltb, length, take, get_or, Ok, Result, Err, Some, None, Option}
 use Rattle.varint.specs.Choice.{pick}
 use Rattle.varint.specs.Gathering.{Held, held, lacks, name_held, text_held}
 use Rattle.varint.specs.Stores.{part}
@@ -24,9 +24,13 @@ use Rattle.protocol.specs.declared.message.Message.{Message}
 use Rattle.protocol.specs.declared.message.Message.TheVariants as Msg
 use Rattle.protocol.specs.declared.message.RowKind.{RowKind}
 use Rattle.protocol.specs.declared.message.RowKind.TheVariants.{Claim, Id, Predicate, Step, Pair}
-use Rattle.protocol.specs.declared.message.Span.{Span}
+use Rattle.varint.specs.declared.text.Span.{Span}
 use Rattle.varint.specs.declared.error.Refusal.{Refusal}
 use Rattle.varint.specs.Texts.{span}
+
+-- how many rows a list of numbers has; what is over is none
+abbrev pub row_count : RowKind → List ℕ → ℕ
+row_count kind rs = length rs / width_of kind
 
 -- are the numbers of the row at number r such that a message may have them?
 unfoldable pub row_good : RowKind → List ℕ → ℕ → Bool
@@ -44,6 +48,10 @@ numbers_fine Predicate rs count = all_good (row_good Predicate rs) (width_of Pre
 numbers_fine Step rs count = all_good (row_good Step rs) (width_of Step) count 0
 numbers_fine Pair rs count = true
 
+-- the same, and what is said where a message may not have them
+unfoldable pub numbers_told : RowKind → List ℕ → ℕ → Result (Unit {0}) Refusal
+numbers_told kind rs count = pick (numbers_fine kind rs count) (Ok tt) (Err (BadMessage Number))
+
 -- the node after those of a type, if they are laid out as nodes are
 unfoldable pub laid_as : Held ℕ → Option ℕ
 laid_as (held n) = Some n
@@ -57,6 +65,10 @@ nodes_fine Predicate limit rs nd count = verdict (types_laid limit rs nd count 0
 nodes_fine Step limit rs nd count = Ok tt
 nodes_fine Pair limit rs nd count = Ok tt
 
+-- the root of a type's value, where the type has one: the node after its key, whose root is node `key`
+unfoldable pub value_root : List ℕ → ℕ → ℕ → Option ℕ
+value_root nd has key = pick (yes has) (Some (cell nd key end_at)) None
+
 -- the nodes from node n on are laid out as those of a tree
 pub record LaidAt (limit : ℕ) (nd : List ℕ) (n : ℕ) : Type 0 where
   pub tree : Tree (ℕ × ℕ)
@@ -64,20 +76,22 @@ pub record LaidAt (limit : ℕ) (nd : List ℕ) (n : ℕ) : Type 0 where
   pub is : table limit nd n 0 ≡ Ok (tree, next)
 
 -- so are those of a type's value, where it has one
-abbrev pub ValueLaid : ℕ → List ℕ → ℕ → ℕ → Type 0
-ValueLaid limit nd has key = (has ≡ 0 → ⊥) → LaidAt limit nd (cell nd key end_at)
+abbrev pub ValueLaid : ℕ → List ℕ → Option ℕ → Type 0
+ValueLaid limit nd None = Unit
+ValueLaid limit nd (Some n) = LaidAt limit nd n
 
 -- so are the nodes of the row at number r; only types have nodes
 abbrev pub RowLaid : RowKind → ℕ → List ℕ → List ℕ → ℕ → Type 0
 RowLaid Claim limit rs nd r = Unit
 RowLaid Id limit rs nd r = Unit
-RowLaid Predicate limit rs nd r = LaidAt limit nd (get_or rs (r + 5) 0) × ValueLaid limit nd (get_or rs (r + 4) 0) (get_or rs (r + 5) 0)
+RowLaid Predicate limit rs nd r = LaidAt limit nd (get_or rs (r + 5) 0) × ValueLaid limit nd (value_root nd (get_or rs (r + 4) 0) (get_or rs (r + 5) 0))
 RowLaid Step limit rs nd r = Unit
 RowLaid Pair limit rs nd r = Unit
 
--- a type's value, where it has one: its root is the node after its key, root `key`
-unfoldable pub value_names : ℕ → List ℕ → List ℕ → ℕ → ℕ → Result (Unit {0}) Refusal
-value_names limit tx nd has key = pick (yes has) (verdict (held_in (table limit nd (cell nd key end_at) 0) tx)) (Ok tt)
+-- the names of a type's value, where it has one
+unfoldable pub value_names : ℕ → List ℕ → List ℕ → Option ℕ → Result (Unit {0}) Refusal
+value_names limit tx nd None = Ok tt
+value_names limit tx nd (Some n) = verdict (held_in (table limit nd n 0) tx)
 
 -- the texts of the row at number r
 unfoldable pub row_names : RowKind → ℕ → List ℕ → List ℕ → List ℕ → ℕ → Result (Unit {0}) Refusal
@@ -85,7 +99,7 @@ row_names Claim limit tx rs nd r = verdict (name_held tx (get_or rs r 0) (get_or
 row_names Id limit tx rs nd r = Ok tt
 row_names Predicate limit tx rs nd r =
     then_names (verdict (name_held tx (get_or rs (r + 1) 0) (get_or rs (r + 2) 0)))
-    (then_names (verdict (held_in (table limit nd (get_or rs (r + 5) 0) 0) tx)) (value_names limit tx nd (get_or rs (r + 4) 0) (get_or rs (r + 5) 0)))
+    (then_names (verdict (held_in (table limit nd (get_or rs (r + 5) 0) 0) tx)) (value_names limit tx nd (value_root nd (get_or rs (r + 4) 0) (get_or rs (r + 5) 0))))
 row_names Step limit tx rs nd r = verdict (name_held tx (get_or rs r 0) (get_or rs (r + 1) 0))
 row_names Pair limit tx rs nd r = Ok tt
 
@@ -94,14 +108,20 @@ unfoldable pub rows_names : RowKind → ℕ → List ℕ → List ℕ → List �
 rows_names kind limit tx rs nd zero r = Ok tt
 rows_names kind limit tx rs nd (suc n) r = then_names (row_names kind limit tx rs nd r) (rows_names kind limit tx rs nd n (r + width_of kind))
 
+-- are there `count` rows?
+unfoldable pub there : RowKind → List ℕ → ℕ → Result (Unit {0}) Refusal
+there kind rs count = pick (ltb (length rs) (count * width_of kind)) (Err (BadMessage RowCount)) (Ok tt)
+
+-- the numbers of the first `count` rows
+pub record Cut (kind : RowKind) (rs : List ℕ) (count : ℕ) (part : List ℕ) : Type 0 where
+  pub there : count * width_of kind ≤ length rs
+  pub is : part ≡ take (count * width_of kind) rs
+
 -- `count` rows as a whole
 unfoldable pub rows_fine : RowKind → ℕ → List ℕ → List ℕ → List ℕ → ℕ → Result (Unit {0}) Refusal
 rows_fine kind limit tx rs nd count =
-    pick (ltb (length rs) (count * width_of kind))
-    (Err (BadMessage RowCount))
-    (pick (numbers_fine kind rs count)
-    (then_names (nodes_fine kind limit rs nd count) (rows_names kind limit tx rs nd count 0))
-    (Err (BadMessage Number)))
+    then_names (there kind rs count)
+    (then_names (numbers_told kind rs count) (then_names (nodes_fine kind limit rs nd count) (rows_names kind limit tx rs nd count 0)))
 
 -- only a reply to a create has a text
 unfoldable pub reply_fine : ControlReply → List ℕ → Result (Unit {0}) Refusal
@@ -112,14 +132,13 @@ reply_fine R.Removed tx = Ok tt
 -- the claims' count comes before the database's name
 unfoldable pub startup_fine : Span → ℕ → List ℕ → List ℕ → List ℕ → ℕ → Result (Unit {0}) Refusal
 startup_fine database limit tx rs nd count =
-    pick (ltb (length rs) (count * width_of Claim))
-    (Err (BadMessage RowCount))
-    (then_names (verdict (name_held tx database.start database.len)) (rows_fine Claim limit tx rs nd count))
+    then_names (there Claim rs count)
+    (then_names (verdict (name_held tx database.start database.len)) (rows_names Claim limit tx rs nd count 0))
 
 -- "12(count, 4096) for a fetch of over 4,096 ids"
-unfoldable pub fetch_fine : ℕ → List ℕ → List ℕ → List ℕ → ℕ → Result (Unit {0}) Refusal
-fetch_fine limit tx rs nd count =
-    then_names (rows_fine Pair limit tx rs nd count) (pick (ltb max_fetch count) (Err (BlockTooLarge count max_fetch)) (Ok tt))
+unfoldable pub fetch_fine : List ℕ → ℕ → Result (Unit {0}) Refusal
+fetch_fine rs count =
+    then_names (there Pair rs count) (pick (ltb max_fetch count) (Err (BlockTooLarge count max_fetch)) (Ok tt))
 
 -- is the message one that can be written?
 unfoldable pub fine : ℕ → Message → List ℕ → List ℕ → List ℕ → Result (Unit {0}) Refusal
@@ -127,7 +146,7 @@ fine limit (Msg.Startup version database mode fingerprint count) tx rs nd = star
 fine limit (Msg.Ready version fingerprint predicates) tx rs nd = Ok tt
 fine limit (Msg.Error code text) tx rs nd = verdict (text_held tx text.start text.len)
 fine limit (Msg.Complete first second) tx rs nd = Ok tt
-fine limit (Msg.Ids count) tx rs nd = rows_fine Id limit tx rs nd count
+fine limit (Msg.Ids count) tx rs nd = there Id rs count
 fine limit (Msg.Types count) tx rs nd = rows_fine Predicate limit tx rs nd count
 fine limit (Msg.Control op database allow schema) tx rs nd =
     then_names (verdict (name_held tx database.start database.len)) (verdict (text_held tx schema.start schema.len))
@@ -135,7 +154,7 @@ fine limit (Msg.Reply reply) tx rs nd = reply_fine reply tx
 fine limit (Msg.Profile count) tx rs nd = rows_fine Step limit tx rs nd count
 fine limit (Msg.Page most cursor query) tx rs nd =
     then_names (verdict (raw_held tx cursor.start cursor.len)) (verdict (text_held tx query.start query.len))
-fine limit (Msg.Fetch digest count) tx rs nd = fetch_fine limit tx rs nd count
+fine limit (Msg.Fetch digest count) tx rs nd = fetch_fine rs count
 fine limit (Msg.ListingDigest predicate digest) tx rs nd = Ok tt
 fine limit (Msg.Opaque payload) tx rs nd = verdict (raw_held tx payload.start payload.len)
 
@@ -145,6 +164,6 @@ unfolding rows_names row_names then_names verdict name_held text_held utf8 scan 
 example_names = refl
 
 -- a fetch of too many ids, and too few rows for them: 19(2) comes first
-example_fetch : fetch_fine 64 [] [] [] 4097 ≡ Err (BadMessage RowCount)
-unfolding fetch_fine rows_fine then_names
+example_fetch : fetch_fine [] 4097 ≡ Err (BadMessage RowCount)
+unfolding fetch_fine there then_names
 example_fetch = refl

@@ -1,33 +1,36 @@
 -- Writing a message from a place of a buffer on, field by field, as the code has it.
-use Rattle.std.specs.Prelude.{Bool, ◌≡◌, refl, List, [], ◌∷◌, ℕ, zero, suc, ◌+◌, ◌*◌, ◌/◌, ◌%◌, ltb, length, get_or, Ok, Err, Some, None, Option}
+use Rattle.std.specs.Prelude.{Bool, true, false, ◌≡◌, refl, List, [], ◌∷◌, ℕ, zero, suc, ◌+◌, ◌*◌, ◌/◌, ◌%◌, ltb, length, get_or, Ok, Err, Some, None, Option}
 use Rattle.varint.specs.Choice.{pick}
 use Rattle.varint.specs.Fixed.{put_le}
 use Rattle.varint.specs.Got.{Got}
 use Rattle.varint.specs.Leb128.{put_by, put_u64}
 use Rattle.desc.specs.Emitting.{Pen, put_bytes, put_number, put_name, put_tree}
-use Rattle.desc.specs.Layout.{NameSpan as Place, end_at}
-use Rattle.desc.specs.Table.{cell, table}
+use Rattle.desc.specs.Layout.{NameSpan as Place}
+use Rattle.desc.specs.Table.{table}
 use Rattle.desc.specs.Trees.{Tree}
 use Rattle.protocol.specs.Codes.{mode_byte, error_byte, op_byte}
 use Rattle.protocol.specs.Fields.{bit, yes}
 use Rattle.protocol.specs.Rows.{width_of}
+use Rattle.protocol.specs.declared.message.ControlOp.{ControlOp}
 use Rattle.protocol.specs.declared.message.ControlOp.TheVariants.{Create, Finish, Remove}
 use Rattle.protocol.specs.declared.message.ControlReply.{ControlReply}
 use Rattle.protocol.specs.declared.message.ControlReply.TheVariants as R
 use Rattle.protocol.specs.declared.message.Message.{Message}
 use Rattle.protocol.specs.declared.message.Message.TheVariants as Msg
+use Rattle.protocol.specs.declared.message.Mode.{Mode}
 use Rattle.protocol.specs.declared.message.RowKind.{RowKind}
 use Rattle.protocol.specs.declared.message.RowKind.TheVariants.{Claim, Id, Predicate, Step, Pair}
-use Rattle.protocol.specs.declared.message.Span.{Span}
+use Rattle.varint.specs.declared.text.Span.{Span}
+use Rattle.protocol_write.specs.Inner.Checking.{value_root}
 use Rattle.protocol_write.specs.declared.write.Writer.{Writer}
 
 -- where a writer stands
 abbrev pub pen : Writer → Pen
 pen w = record { out = w.out.now; place = w.at }
 
--- a writer has written so, into the buffer that it had
+-- a writer has written so, into the buffer that it had, and is lent what it was
 abbrev pub Writes : (Pen → Pen) → Writer → Writer → Type 0
-Writes put before after = (after.out.ghost_name ≡ before.out.ghost_name) × (pen after ≡ put (pen before))
+Writes put before after = (after.lent ≡ before.lent) × (after.out.ghost_name ≡ before.out.ghost_name) × (pen after ≡ put (pen before))
 
 -- one byte
 unfoldable pub put_byte : ℕ → Pen → Pen
@@ -68,14 +71,15 @@ put_labelled tx rs r s = put_number (get_or rs (r + 2) 0) (put_text tx (get_or r
 unfoldable pub put_step : List ℕ → List ℕ → ℕ → Pen → Pen
 put_step tx rs r s = put_flag (yes (get_or rs (r + 3) 0)) (put_labelled tx rs r s)
 
--- whether a type has a value, and the value; its root is the node after its key, root `key`
-unfoldable pub put_value : ℕ → List ℕ → List ℕ → ℕ → ℕ → Pen → Pen
-put_value limit tx nd has key s = pick (yes has) (put_at tx (table limit nd (cell nd key end_at) 0) (put_flag (yes has) s)) (put_flag (yes has) s)
+-- whether a type has a value, and the value
+unfoldable pub put_value : ℕ → List ℕ → List ℕ → Option ℕ → Pen → Pen
+put_value limit tx nd None s = put_flag false s
+put_value limit tx nd (Some n) s = put_at tx (table limit nd n 0) (put_flag true s)
 
 -- the type whose row starts at number r
 unfoldable pub put_type : ℕ → List ℕ → List ℕ → List ℕ → ℕ → Pen → Pen
 put_type limit tx rs nd r s =
-    put_value limit tx nd (get_or rs (r + 4) 0) (get_or rs (r + 5) 0)
+    put_value limit tx nd (value_root nd (get_or rs (r + 4) 0) (get_or rs (r + 5) 0))
     (put_at tx (table limit nd (get_or rs (r + 5) 0) 0)
     (put_flag (yes (get_or rs (r + 3) 0))
     (put_text tx (get_or rs (r + 1) 0) (get_or rs (r + 2) 0)
@@ -105,15 +109,15 @@ put_counted kind limit tx rs nd count s =
 unfoldable pub put_tagged : ℕ → Span → List ℕ → Pen → Pen
 put_tagged b span tx s = put_text tx span.start span.len (put_byte b s)
 
--- a startup up to its claims, by the byte of its mode
-unfoldable pub put_startup : ℕ → Span → ℕ → ℕ → List ℕ → Pen → Pen
+-- a startup up to its claims
+unfoldable pub put_startup : ℕ → Span → Mode → ℕ → List ℕ → Pen → Pen
 put_startup version database mode fingerprint tx s =
-    put_number fingerprint (put_byte mode (put_text tx database.start database.len (put_number version s)))
+    put_number fingerprint (put_byte (mode_byte mode) (put_text tx database.start database.len (put_number version s)))
 
--- a control message, by the byte of its op
-unfoldable pub put_control : ℕ → Span → Bool → Span → List ℕ → Pen → Pen
+-- a control message
+unfoldable pub put_control : ControlOp → Span → Bool → Span → List ℕ → Pen → Pen
 put_control op database allow schema tx s =
-    put_text tx schema.start schema.len (put_flag allow (put_tagged op database tx s))
+    put_text tx schema.start schema.len (put_flag allow (put_tagged (op_byte op) database tx s))
 
 -- a reply to a finish
 unfoldable pub put_finished : ℕ → ℕ → ℕ → Bool → Pen → Pen
@@ -139,13 +143,13 @@ put_digest (Some d) s = put_number d (put_byte 1 s)
 -- the whole message
 unfoldable pub put_message : ℕ → Message → List ℕ → List ℕ → List ℕ → Pen → Pen
 put_message limit (Msg.Startup version database mode fingerprint count) tx rs nd s =
-    put_counted Claim limit tx rs nd count (put_startup version database (mode_byte mode) fingerprint tx s)
+    put_counted Claim limit tx rs nd count (put_startup version database mode fingerprint tx s)
 put_message limit (Msg.Ready version fingerprint predicates) tx rs nd s = put_number predicates (put_two version fingerprint s)
 put_message limit (Msg.Error code text) tx rs nd s = put_tagged (error_byte code) text tx s
 put_message limit (Msg.Complete first second) tx rs nd s = put_two first second s
 put_message limit (Msg.Ids count) tx rs nd s = put_counted Id limit tx rs nd count s
 put_message limit (Msg.Types count) tx rs nd s = put_counted Predicate limit tx rs nd count s
-put_message limit (Msg.Control op database allow schema) tx rs nd s = put_control (op_byte op) database allow schema tx s
+put_message limit (Msg.Control op database allow schema) tx rs nd s = put_control op database allow schema tx s
 put_message limit (Msg.Reply reply) tx rs nd s = put_reply reply tx s
 put_message limit (Msg.Profile count) tx rs nd s = put_counted Step limit tx rs nd count s
 put_message limit (Msg.Page most cursor query) tx rs nd s = put_page most cursor query tx s
@@ -155,7 +159,7 @@ put_message limit (Msg.Opaque payload) tx rs nd s = put_name tx (payload.start, 
 
 -- the size that a writer tells with a buffer of one byte
 unfoldable pub size_of : ℕ → Message → List ℕ → List ℕ → List ℕ → ℕ
-size_of limit message tx rs nd = (put_message limit message tx rs nd (record { out = 0 ∷ []; place = 0 })).place
+size_of limit message tx rs nd = (put_message limit message tx rs nd (record { out = []; place = 0 })).place
 
 -- an id of predicate 2 and sequence 5 as a fetch has it, into a buffer that is a byte short of it
 example_pair : put_row Pair 64 [] (2199023255557 ∷ []) [] 0 (record { out = 9 ∷ []; place = 0 }) ≡ record { out = 2 ∷ []; place = 2 }

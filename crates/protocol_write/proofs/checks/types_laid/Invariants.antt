@@ -1,8 +1,8 @@
 use mathlib.Core.Path.{◌≡◌}
-use Prim.Native.Nat.{◌+◌, ◌-◌, ◌*◌, ◌≤◌}
-use lib.ListN.{length}
 use Rattle.protocol.specs.Types.{types_laid}
+use Rattle.protocol.specs.declared.message.RowKind.TheVariants as K
+use Rattle.protocol_write.specs.Inner.Checking.{row_count}
 use Rattle.protocol_write.proofs.checks.types_laid.Given as goal
 
-abbrev pub invariant-loop : goal.invariant-loop
-invariant-loop l = (l.r + (l.count - l.counter) * 6 ≤ length l.lent.rows.now) × (types_laid l.lent.limit l.lent.rows.now l.lent.nodes.now l.count 0 0 ≡ types_laid l.lent.limit l.lent.rows.now l.lent.nodes.now (l.count - l.counter) l.r l.n)
+abbrev pub invariant-loop-row : goal.invariant-loop-row
+invariant-loop-row l = (l.row-iterator.size ≡ 6) × (types_laid l.lent.limit l.rows l.lent.nodes.now (row_count K.Predicate l.rows) 0 0 ≡ types_laid l.lent.limit l.row-iterator.rest.now l.lent.nodes.now (row_count K.Predicate l.row-iterator.rest.now) 0 l.n)
