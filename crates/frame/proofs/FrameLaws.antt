@@ -7,6 +7,7 @@ use lib.Dec.{ltb}
 use lib.ListN.{length, take, set, get_or, replicate, length-append}
 use lib.Seq.{sets, take-append_seam}
 use borrow.Author.Tests.{le-ltb, ltb-false}
+use Rattle.std.proofs.lemmas.List.{get_or-take}
 use Rattle.std.specs.Int.{w32, from_le_bytes}
 use Rattle.varint.specs.Fixed.{le, put_le}
 use Rattle.varint.specs.RoundTrips.{Bytes}
@@ -73,6 +74,26 @@ pub field_is : (s : List ℕ) (at : ℕ) → at + 4 ≤ length s
     → le (part s at 4) ≡ from_le_bytes w32 (get_or s at 0 ∷ get_or s (at + 1) 0 ∷ get_or s (at + 2) 0 ∷ get_or s (at + 3) 0 ∷ [])
 unfolding le
 field_is s at h = rw (four_bytes s at h) (omega arith)
+
+-- Of a header the first nine bytes are read: what the library makes of them.
+module _ (s b : List ℕ) (e : b ≡ take 9 s) (h : 9 ≤ length s) where
+  byte : (i : ℕ) → i < 9 → get_or s i 0 ≡ get_or b i 0
+  byte i k = rw e (sym (get_or-take 9 s i 0 k))
+
+  field : (at : ℕ) → at + 4 ≤ 9 → le (part s at 4) ≡ from_le_bytes w32 (get_or b at 0 ∷ get_or b (at + 1) 0 ∷ get_or b (at + 2) 0 ∷ get_or b (at + 3) 0 ∷ [])
+  field at k = rw (← byte at (omega arith), ← byte (at + 1) (omega arith), ← byte (at + 2) (omega arith), ← byte (at + 3) (omega arith)) (field_is s at (omega arith))
+
+  pub kind_is : kind_of s ≡ get_or b 0 0
+  unfolding kind_of
+  kind_is = byte 0 (omega arith)
+
+  pub stream_is : {n : ℕ} → n ≡ from_le_bytes w32 (get_or b 1 0 ∷ get_or b 2 0 ∷ get_or b 3 0 ∷ get_or b 4 0 ∷ []) → stream_of s ≡ n
+  unfolding stream_of
+  stream_is i = field 1 (omega arith) ∙ sym i
+
+  pub length_is : {n : ℕ} → n ≡ from_le_bytes w32 (get_or b 5 0 ∷ get_or b 6 0 ∷ get_or b 7 0 ∷ get_or b 8 0 ∷ []) → length_of s ≡ n
+  unfolding length_of
+  length_is i = field 5 (omega arith) ∙ sym i
 
 -- ---- what was decoded
 
@@ -143,7 +164,7 @@ module _ (kind stream : ℕ) (payload rest : List ℕ) where
   -- whatever follows it
   pub frame_back : (max : ℕ) → stream < 4294967296 → max < 4294967296 → length payload ≤ max
       → decode_frame max (frame_bytes kind stream payload ++ rest)
-      ≡ Ok (record { header = record { kind = kind; stream = stream; length = length payload }; used = 9 + length payload })
+      ≡ Ok (record { header = record { kind = record { 0 = kind }; stream = stream; length = length payload }; used = 9 + length payload })
   unfolding whole decode_frame framed decode_header
   frame_back max hs hm hp =
       let l : length whole ≡ 9 + length payload + length rest = simp (length-append, length_frame_bytes) in

@@ -1,13 +1,13 @@
 -- Each way out of the receiver's functions, over plain values.
 use mathlib.Core.Path.{◌≡◌, refl, sym, ap, ◌∙◌}
 use mathlib.Core.Bool.{Bool, true, false, true≢false}
-use mathlib.Core.List.{List, [], ◌++◌, append-nil}
+use mathlib.Core.List.{List, ◌++◌, append-nil}
 use Prim.Native.Nat.{ℕ, ◌+◌, ◌-◌, ◌≤◌, ◌<◌, min}
 use native.Mathlib.Nat.{sub-zero}
 use native.Mathlib.Omega.{arith}
 use borrow.Author.Tests.{lt-ltb, le-ltb, ltb-true, ltb-false, leb-false, eq-eqb}
 use lib.Dec.{ltb, leb}
-use lib.ListN.{length, take, drop, replicate, length-append, length-take, length-drop, length-replicate, drop_of_length-le}
+use lib.ListN.{length, take, drop, replicate, length-append, length-take, length-drop, length-replicate}
 use lib.Seq.{sets, sets-eq, take_at, drop-append-add, take_all, length-take-le, length-sets}
 use Rattle.std.proofs.lemmas.List.{drop-replicate}
 use Rattle.varint.specs.Stores.{part, fill_from, clear_from}
@@ -39,15 +39,7 @@ module _ (p : Progress) (nine : length p.header ≡ 9) where
   pub header_fits : impossible editor p ≡ false → p.header_len ≤ 9
   header_fits f = header_possible (ltb 9 p.header_len) refl f
 
--- ---- a copy over the whole of an array
-
-pub copied_whole : (x z : List ℕ) (n : ℕ) → length x ≡ n → length z ≡ n → sets z 0 (part x 0 n) ≡ x
-unfolding part
-copied_whole x z n e f =
-    let t : take n x ≡ x = take_all n x (omega arith) in
-    let l : 0 + length x ≤ length z = omega arith in
-    let d : drop (0 + length x) z ≡ [] = drop_of_length-le z {i = 0 + length x} (omega arith) in
-    rw t (sets-eq x z 0 l ∙ rw d (append-nil x))
+-- ---- a hold that is cleared
 
 pub cleared : (d : List ℕ) → clear_from d 0 ≡ replicate (length d) 0
 unfolding fill_from
@@ -114,7 +106,7 @@ module _ (r : Receiver) (u n : ℕ) (q hold text rows nodes : List ℕ) (have : 
       rw hold_is (take_at payload (drop (length payload) hold) n k)
 
   pub loaded_whole : (h : FrameHeader) → h ≡ header_of r.progress.header → h.length ≡ n → n - r.progress.payload_len ≤ length q
-      → handed (world_of r stored text rows nodes) h (u + (n - r.progress.payload_len)) (decoded_kind editor (setup_of r) h.kind (take n stored) (record { text = text; rows = rows; nodes = nodes }))
+      → handed (world_of r stored text rows nodes) h (u + (n - r.progress.payload_len)) (decoded_kind editor (setup_of r) h.kind.0 (take n stored) (record { text = text; rows = rows; nodes = nodes }))
       ≡ loads editor (world_of r hold text rows nodes) r.progress.header u q n
   unfolding loads handed
   loaded_whole h e f l =

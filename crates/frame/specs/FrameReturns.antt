@@ -9,10 +9,10 @@ use Rattle.frame.specs.Frames.{decode_frame, frame_bytes, encode_frame}
 abbrev pub FrameReturns : Type 0
 FrameReturns = (max kind stream : ℕ) (payload d : List ℕ) → stream < 4294967296 → max < 4294967296 → length payload ≤ max → 9 + length payload ≤ length d
     → (decode_frame max (encode_frame max kind stream payload d).out
-    ≡ Ok (record { header = record { kind = kind; stream = stream; length = length payload }; used = 9 + length payload }))
+    ≡ Ok (record { header = record { kind = record { 0 = kind }; stream = stream; length = length payload }; used = 9 + length payload }))
     × (part (encode_frame max kind stream payload d).out 9 (length payload) ≡ payload)
 
 -- The bytes of what was decoded are those that were used.
 abbrev pub FrameBytesReturn : Type 0
 FrameBytesReturn = (max : ℕ) (s : List ℕ) (f : Frame) → Bytes s → decode_frame max s ≡ Ok f
-    → frame_bytes f.header.kind f.header.stream (part s 9 f.header.length) ≡ take f.used s
+    → frame_bytes f.header.kind.0 f.header.stream (part s 9 f.header.length) ≡ take f.used s

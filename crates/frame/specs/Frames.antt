@@ -22,7 +22,7 @@ unfoldable pub length_of : List ℕ → ℕ
 length_of s = le (part s 5 4)
 
 abbrev pub header_of : List ℕ → FrameHeader
-header_of s = record { kind = kind_of s; stream = stream_of s; length = length_of s }
+header_of s = record { kind = record { 0 = kind_of s }; stream = stream_of s; length = length_of s }
 
 -- ---- reading
 
@@ -56,7 +56,7 @@ encode_frame max kind stream payload out =
 
 -- the frame of document 01's lister
 example_whole : decode_frame 67108864 (0x05 ∷ 0x01 ∷ 0 ∷ 0 ∷ 0 ∷ 0x03 ∷ 0 ∷ 0 ∷ 0 ∷ 0x01 ∷ 0x2A ∷ 0x00 ∷ [])
-    ≡ Ok (record { header = record { kind = 5; stream = 1; length = 3 }; used = 12 })
+    ≡ Ok (record { header = record { kind = record { 0 = 5 }; stream = 1; length = 3 }; used = 12 })
 unfolding decode_frame framed decode_header kind_of stream_of length_of le part
 example_whole = refl
 

@@ -1,2 +1,3 @@
 -- What only the contracts of private functions cite: a reader of the public ones needs none of it.
 pub mod Judging
+pub mod Lending

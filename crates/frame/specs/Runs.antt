@@ -76,7 +76,7 @@ cleared : List ℕ → Lent
 cleared text = record { text = text; rows = 0 ∷ []; nodes = [] }
 
 opaque : ℕ → ℕ → ℕ → ℕ → List ℕ → Rattle.frame.specs.Reading.Event
-opaque kind stream len n text = frame (record { kind = kind; stream = stream; length = len }) (Ok (Msg.Opaque (record { start = 0; len = n }))) (cleared text)
+opaque kind stream len n text = frame (record { kind = record { 0 = kind }; stream = stream; length = len }) (Ok (Msg.Opaque (record { start = 0; len = n }))) (cleared text)
 
 example_read : reading editor (setup 5) (joined pieces) (lent (1 ∷ 2 ∷ 3 ∷ 4 ∷ []))
     ≡ record {
@@ -125,8 +125,8 @@ stopped = record {
 -- the stop's refusal once in the run, and again from each of the two offers after it
 example_session : driving editor session cuts ≡ record {
   run = record {
-    events = frame (record { kind = 42; stream = 1; length = 5 }) (Ok (Msg.Control Finish (record { start = 0; len = 1 }) true (record { start = 1; len = 0 }))) shown
-        ∷ frame (record { kind = 42; stream = 2; length = 3 }) (Err (TypeMismatch M.ControlFlag)) shown
+    events = frame (record { kind = record { 0 = 42 }; stream = 1; length = 5 }) (Ok (Msg.Control Finish (record { start = 0; len = 1 }) true (record { start = 1; len = 0 }))) shown
+        ∷ frame (record { kind = record { 0 = 42 }; stream = 2; length = 3 }) (Err (TypeMismatch M.ControlFlag)) shown
         ∷ halt (code_of (TooSmall Hold 6)) ∷ [];
     used = 35;
     world = stopped;

@@ -7,62 +7,62 @@ pub struct FrameKind(pub u8);
 
 impl FrameKind {
     // Of every stream.
-    pub const COPY_IN_RESPONSE: u8 = b'G';
+    pub const COPY_IN_RESPONSE: FrameKind = FrameKind(b'G');
 
-    pub const COPY_DATA: u8 = b'd';
+    pub const COPY_DATA: FrameKind = FrameKind(b'd');
 
-    pub const COPY_DONE: u8 = b'c';
+    pub const COPY_DONE: FrameKind = FrameKind(b'c');
 
-    pub const ROW_DESCRIPTION: u8 = b'T';
+    pub const ROW_DESCRIPTION: FrameKind = FrameKind(b'T');
 
-    pub const DATA_ROW: u8 = b'D';
+    pub const DATA_ROW: FrameKind = FrameKind(b'D');
 
-    pub const ERROR: u8 = b'E';
+    pub const ERROR: FrameKind = FrameKind(b'E');
 
     // Of a session.
-    pub const STARTUP: u8 = b'S';
+    pub const STARTUP: FrameKind = FrameKind(b'S');
 
-    pub const READY: u8 = b'R';
+    pub const READY: FrameKind = FrameKind(b'R');
 
-    pub const OPEN_WRITE: u8 = b'W';
+    pub const OPEN_WRITE: FrameKind = FrameKind(b'W');
 
-    pub const OPEN_WRITE_IDS: u8 = b'I';
+    pub const OPEN_WRITE_IDS: FrameKind = FrameKind(b'I');
 
-    pub const IDS: u8 = b'i';
+    pub const IDS: FrameKind = FrameKind(b'i');
 
-    pub const QUERY: u8 = b'Q';
+    pub const QUERY: FrameKind = FrameKind(b'Q');
 
-    pub const QUERY_PROFILE: u8 = b'P';
+    pub const QUERY_PROFILE: FrameKind = FrameKind(b'P');
 
-    pub const PROFILE: u8 = b'p';
+    pub const PROFILE: FrameKind = FrameKind(b'p');
 
-    pub const QUERY_PAGE: u8 = b'G';
+    pub const QUERY_PAGE: FrameKind = FrameKind(b'G');
 
-    pub const QUERY_COUNT: u8 = b'N';
+    pub const QUERY_COUNT: FrameKind = FrameKind(b'N');
 
-    pub const COUNT: u8 = b'n';
+    pub const COUNT: FrameKind = FrameKind(b'n');
 
-    pub const RESUME: u8 = b'r';
+    pub const RESUME: FrameKind = FrameKind(b'r');
 
-    pub const COMPLETE: u8 = b'C';
+    pub const COMPLETE: FrameKind = FrameKind(b'C');
 
-    pub const CANCEL: u8 = b'X';
+    pub const CANCEL: FrameKind = FrameKind(b'X');
 
-    pub const CONTROL: u8 = b'L';
+    pub const CONTROL: FrameKind = FrameKind(b'L');
 
-    pub const CONTROL_REPLY: u8 = b'M';
+    pub const CONTROL_REPLY: FrameKind = FrameKind(b'M');
 
-    pub const SCHEMA: u8 = b'H';
+    pub const SCHEMA: FrameKind = FrameKind(b'H');
 
-    pub const SCHEMA_REPLY: u8 = b'h';
+    pub const SCHEMA_REPLY: FrameKind = FrameKind(b'h');
 
-    pub const TYPES: u8 = b'Y';
+    pub const TYPES: FrameKind = FrameKind(b'Y');
 
-    pub const TYPES_REPLY: u8 = b'y';
+    pub const TYPES_REPLY: FrameKind = FrameKind(b'y');
 
-    pub const FETCH: u8 = b'F';
+    pub const FETCH: FrameKind = FrameKind(b'F');
 
-    pub const LISTING_DIGEST: u8 = b'l';
+    pub const LISTING_DIGEST: FrameKind = FrameKind(b'l');
 
-    pub const FETCHED: u8 = b'f';
+    pub const FETCHED: FrameKind = FrameKind(b'f');
 }

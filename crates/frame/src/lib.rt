@@ -15,6 +15,7 @@ ghost use Rattle.varint.specs.Fixed.{le};
 ghost use Rattle.varint.specs.Stores.{part};
 ghost use Rattle.frame.specs.Frames.{encode_frame, decode_header, decode_frame};
 
+use kinds::FrameKind;
 use varint::Written;
 use varint::error::{Buffer, Refusal};
 use varint::fixed::put_u32_le;
@@ -23,8 +24,7 @@ use varint::store::{copy_bytes, fill_from, store};
 // A frame's header, decoded.
 #[derive(Clone, Copy)]
 pub struct FrameHeader {
-    // A number, since any byte is allowed; `kinds::FrameKind` names the known ones.
-    pub kind: u8,
+    pub kind: FrameKind,
     pub stream: u32,
     pub length: u32,
 }
@@ -46,55 +46,41 @@ impl Frame {
 
 // Writes the frame of a payload, and zeros after it; or a refusal, and nothing is written.
 #[tactic(auto, unfolding(crate::specs::Frames::encode_frame, varint::specs::Outs::wrote, varint::specs::Stores::filled), using(crate::proofs::FrameLaws::length_frame_bytes, crate::proofs::FrameLaws::frame_sent))]
-pub fn encode_frame(kind: u8, stream: u32, payload: &[u8], out: &mut [u8]) -> Written
-    ensures { record { answer = result; out = out.new } ≡ encode_frame 67108864 kind stream payload.now out.old }
+pub fn encode_frame(kind: FrameKind, stream: u32, payload: &[u8], out: &mut [u8]) -> Written
+    ensures { record { answer = result; out = out.new } ≡ encode_frame 67108864 kind.0 stream payload.now out.old }
 {
     let length = payload.len();
     if Frame::MAX_PAYLOAD < length as u64 {
-        return Err(Refusal::BlockTooLarge {
-            declared: length as u64,
-            max: Frame::MAX_PAYLOAD,
-        });
+        return Err(Refusal::too_large(length as u64, Frame::MAX_PAYLOAD));
     }
     let size = Frame::HEADER_LEN + length;
     if out.len() < size {
         return Err(Refusal::too_small(Buffer::Out, size));
     }
-    store(out, 0, kind);
+    store(out, 0, kind.0);
     put_u32_le(out, 1, stream);
-    put_u32_le(out, 5, length as u32);
+    put_u32_le(out, 5, length as u32); // it fits, and `try_from` would have a way out that nothing takes
     copy_bytes(payload, 0, length, out, Frame::HEADER_LEN);
     fill_from(out, size, 0);
     Ok(size)
 }
 
-// The header's field of 4 bytes at place `at`.
-#[tactic(auto, using(crate::proofs::FrameLaws::field_is))]
-fn header_field(bytes: &[u8], at: usize) -> u32
-    requires { at + 4 ≤ length bytes.now }
-    ensures { result ≡ le (part bytes.now at 4) }
-{
-    u32::from_le_bytes([bytes[at], bytes[at + 1], bytes[at + 2], bytes[at + 3]])
-}
-
 // Reads a frame's header without waiting for its payload.
-#[tactic(auto, unfolding(crate::specs::Frames::decode_header, crate::specs::Frames::kind_of, crate::specs::Frames::stream_of, crate::specs::Frames::length_of))]
+#[tactic(auto, unfolding(crate::specs::Frames::decode_header), using(crate::proofs::FrameLaws::kind_is, crate::proofs::FrameLaws::stream_is, crate::proofs::FrameLaws::length_is))]
 pub fn decode_header(bytes: &[u8]) -> Result<FrameHeader, Refusal>
     ensures { result ≡ decode_header 67108864 bytes.now }
 {
-    if bytes.len() < Frame::HEADER_LEN {
+    let Some(header) = bytes.first_chunk::<9>() else {
         return Err(Refusal::UnexpectedEof);
-    }
-    let length = header_field(bytes, 5);
+    };
+    let [kind, s0, s1, s2, s3, l0, l1, l2, l3] = *header;
+    let length = u32::from_le_bytes([l0, l1, l2, l3]);
     if Frame::MAX_PAYLOAD < length as u64 {
-        return Err(Refusal::BlockTooLarge {
-            declared: length as u64,
-            max: Frame::MAX_PAYLOAD,
-        });
+        return Err(Refusal::too_large(length as u64, Frame::MAX_PAYLOAD));
     }
     Ok(FrameHeader {
-        kind: bytes[0],
-        stream: header_field(bytes, 1),
+        kind: FrameKind(kind),
+        stream: u32::from_le_bytes([s0, s1, s2, s3]),
         length,
     })
 }

@@ -1,22 +1,21 @@
 // The receiver: takes a run of bytes in pieces, as the network cut them, and hands out each frame with its message.
-//
-// Hold, text, rows and nodes are lent side by side: a struct of them would be made in `offer`, to be taken apart in `hand_out`, which lends `decode` the three
-// one by one. By value it was tried, and each step between has to take it apart and make it anew.
 ghost use Rattle.std.specs.Prelude.{◌≡◌, ◌++◌, ℕ, ◌-◌, ◌≤◌, length, take, drop, get_or, replicate};
 ghost use Rattle.frame.specs.Worlds.{editor, progress_of, receiver_of, running, pad};
 ghost use Rattle.frame.specs.Reading.{gather, decoded_kind, judge as judging};
 ghost use Rattle.frame.specs.Offering.{opens, impossible as impossibleFor, setup_of, header_held, handed, loads, settles, offering, world_of, offer_of};
 ghost use Rattle.frame.specs.Frames.{header_of};
 ghost use Rattle.frame.specs.Inner.Judging.{Judges};
+ghost use Rattle.frame.specs.Inner.Lending.{lent_world, Leaves};
 ghost use Rattle.frame.specs.declared.receiver.Outcome.TheVariants.{Refused as Declined};
 
+use crate::kinds::FrameKind;
 use crate::{Frame, FrameHeader, decode_header};
 use protocol::decode;
 use protocol::message::Message;
 use varint::error::{Buffer, Code, Refusal};
 use varint::store::{copy_bytes, fill_from};
 
-// What an offer advances. A stop is the refusal's number and details, and 0 while the receiver runs: numbers, since this is memory that C lends.
+// What an offer advances. A stop is the refusal's number and details, and 0 while the receiver runs: numbers, and each by itself, since this is memory that C lends and names so.
 #[repr(C)]
 #[derive(Clone, Copy)]
 pub struct Progress {
@@ -58,6 +57,14 @@ pub enum Outcome {
 pub struct Offered {
     pub used: usize,
     pub outcome: Outcome,
+}
+
+// What a frame's message is decoded into. The hold as a fourth field was tried: the prover does not follow a loan of it beside those of the others.
+#[derive(Drop)]
+struct Lent<'a> {
+    text: &'a mut [u8],
+    rows: &'a mut [u64],
+    nodes: &'a mut [u64],
 }
 
 // What nine header bytes say: the run stops, or so much payload is to be gathered.
@@ -167,11 +174,11 @@ impl Receiver {
         Ok(())
     }
 
-    // The message that a kind names.
-    pub fn entry(&self, kind: u8) -> u8
-        ensures { result ≡ get_or self.now.table kind 0 }
+    // The message that a kind names, as the table's byte, which may be any.
+    pub fn entry(&self, kind: FrameKind) -> u8
+        ensures { result ≡ get_or self.now.table kind.0 0 }
     {
-        self.table[kind as usize]
+        self.table[kind.0 as usize]
     }
 
     // The payload is whole in the hold: it is decoded, and header and hold go to zero.
@@ -181,15 +188,14 @@ impl Receiver {
         header: FrameHeader,
         used: usize,
         hold: &mut [u8],
-        text: &mut [u8],
-        rows: &mut [u64],
-        nodes: &mut [u64],
+        lent: &mut Lent<'_>,
     ) -> Offered
         requires { header.length ≤ length hold.old }
-        ensures { offer_of result self.new hold.new text.new rows.new nodes.new ≡ handed (world_of self.old hold.old text.old rows.old nodes.old) header used (decoded_kind editor (setup_of self.old) header.kind (take header.length hold.old) (record { text = text.old; rows = rows.old; nodes = nodes.old })) }
+        ensures { Leaves result self.new hold.new lent.old lent.new (handed (lent_world self.old hold.old lent.old) header used (decoded_kind editor (setup_of self.old) header.kind.0 (take header.length hold.old) (lent_world self.old hold.old lent.old).lent)) }
     {
         let entry = self.entry(header.kind);
-        let answer = decode(entry, &hold[..header.length as usize], text, rows, nodes);
+        let payload = &hold[..header.length as usize];
+        let answer = decode(entry, payload, lent.text, lent.rows, lent.nodes);
         fill_from(hold, 0, 0); // no byte of this frame may show in the next
         self.progress.header = [0; Frame::HEADER_LEN];
         self.progress.header_len = 0;
@@ -208,12 +214,10 @@ impl Receiver {
         used: usize,
         rest: &[u8],
         hold: &mut [u8],
-        text: &mut [u8],
-        rows: &mut [u64],
-        nodes: &mut [u64],
+        lent: &mut Lent<'_>,
     ) -> Offered
         requires { (header ≡ header_of self.old.progress.header) × (self.old.progress.payload_len ≤ header.length) × (header.length ≤ length hold.old) × (used ≤ 9) }
-        ensures { offer_of result self.new hold.new text.new rows.new nodes.new ≡ loads editor (world_of self.old hold.old text.old rows.old nodes.old) self.old.progress.header used rest.now header.length }
+        ensures { Leaves result self.new hold.new lent.old lent.new (loads editor (lent_world self.old hold.old lent.old) self.old.progress.header used rest.now header.length) }
     {
         let have = self.progress.payload_len;
         let wanted = header.length as usize - have;
@@ -227,22 +231,14 @@ impl Receiver {
                 outcome: Outcome::More,
             };
         }
-        self.hand_out(header, used + wanted, hold, text, rows, nodes)
+        self.hand_out(header, used + wanted, hold, lent)
     }
 
     // Nine header bytes are there: the run stops, or the payload is gathered.
     #[tactic(auto, unfolding(crate::specs::Offering::settles), using(crate::proofs::ReceiverSteps::cleared))]
-    fn settle(
-        &mut self,
-        used: usize,
-        rest: &[u8],
-        hold: &mut [u8],
-        text: &mut [u8],
-        rows: &mut [u64],
-        nodes: &mut [u64],
-    ) -> Offered
+    fn settle(&mut self, used: usize, rest: &[u8], hold: &mut [u8], lent: &mut Lent<'_>) -> Offered
         requires { ((n : ℕ) → judging editor self.old.progress.hold_len self.old.progress.header ≡ gather n → self.old.progress.payload_len ≤ n) × (length hold.old ≡ self.old.progress.hold_len) × (used ≤ 9) }
-        ensures { offer_of result self.new hold.new text.new rows.new nodes.new ≡ settles editor (judging editor self.old.progress.hold_len self.old.progress.header) (world_of self.old hold.old text.old rows.old nodes.old) self.old.progress.header used rest.now }
+        ensures { Leaves result self.new hold.new lent.old lent.new (settles editor (judging editor self.old.progress.hold_len self.old.progress.header) (lent_world self.old hold.old lent.old) self.old.progress.header used rest.now) }
     {
         match judge(&self.progress.header, self.progress.hold_len) {
             Err(e) => {
@@ -254,11 +250,12 @@ impl Receiver {
                     outcome: Outcome::Stopped(stop),
                 }
             }
-            Ok(header) => self.load(header, used, rest, hold, text, rows, nodes),
+            Ok(header) => self.load(header, used, rest, hold, lent),
         }
     }
 
-    // Offers a piece of the run. It is read to the first frame's end, a stop or the piece's end; what is left of it after a frame is offered again.
+    // Offers a piece of the run. It is read to the first frame's end, a stop or the piece's end; what is left of it after a frame is offered again. Text,
+    // rows and nodes come one by one, as C lends them.
     #[tactic(auto, unfolding(crate::specs::Offering::offering), using(crate::proofs::ReceiverSteps::header_fits, crate::proofs::ReceiverSteps::header_short, crate::proofs::ReceiverSteps::header_there, crate::proofs::ReceiverSteps::room))]
     pub fn offer(
         &mut self,
@@ -292,6 +289,7 @@ impl Receiver {
                 outcome: Outcome::More,
             };
         }
-        self.settle(lacking, &piece[lacking..], hold, text, rows, nodes)
+        let mut lent = Lent { text, rows, nodes };
+        self.settle(lacking, &piece[lacking..], hold, &mut lent)
     }
 }

@@ -21,7 +21,7 @@ abbrev pub headed : FrameHeader → (used : ℕ) → Parts → Parts
 headed h u p = record {
   refusal = p.refusal;
   used = u;
-  kind = h.kind;
+  kind = h.kind.0;
   stream = h.stream;
   length = h.length;
   message = p.message;
@@ -96,7 +96,7 @@ result_of (Refused e) = 3
 -- a frame "by kind, stream, length, and message or refusal with details"; the message's number is the kind table's, also where the message is refused
 abbrev pub of_outcome : (table : List ℕ) → (used : ℕ) → Outcome → Parts
 of_outcome table u More = accepted u 0 no_fields
-of_outcome table u (Handed h a) = headed h u (of_message (named_entry (get_or table h.kind 0)) a)
+of_outcome table u (Handed h a) = headed h u (of_message (named_entry (get_or table h.kind.0 0)) a)
 of_outcome table u (Stopped e) = given e u 0 no_fields
 of_outcome table u (Refused e) = given e u 0 no_fields
 

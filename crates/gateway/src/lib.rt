@@ -14,7 +14,7 @@ ghost use Rattle.protocol.specs.Entries.{entry_number};
 ghost use Rattle.protocol.specs.Rows.{width_of};
 ghost use Rattle.gateway.specs.Entries.{named_entry, fault_of, encode_numbers, decode_call, decode_desc_call, encode_call, encode_desc_call, get_call, put_call};
 
-use answers::{of_number, of_used, tell, tell_message};
+use answers::{of_message, of_number, of_used, tell};
 use desc::decode_desc;
 use desc::write::encode_desc;
 pub use frames::{fjord_decode_frame, fjord_decode_header, fjord_encode_frame, fjord_put_slot};
@@ -32,10 +32,7 @@ use varint::{Written, encode_u64, get_u64};
 pub(crate) fn named(entry: u64) -> u8
     ensures { result ≡ named_entry entry }
 {
-    match Entry::of(entry) {
-        Some(named) => named as u8,
-        None => 0,
-    }
+    Entry::of(entry).map_or(0, |which| which as u8)
 }
 
 #[tactic(auto, unfolding(crate::specs::Entries::decode_call))]
@@ -51,7 +48,7 @@ pub fn fjord_decode(
 {
     let number = named(entry);
     let read = decode(number, payload, text, rows, nodes);
-    tell_message(number as u64, read, answer)
+    tell(of_message(u64::from(number), read), answer)
 }
 
 #[tactic(auto, unfolding(crate::specs::Entries::decode_desc_call))]

@@ -1,30 +1,34 @@
 // Messages as numbers, and back: a message's number, 1 to 12 or 0 for an opaque payload, and six fields.
+#![tactic(auto, unfolding(crate::specs::Numbers::message_of, crate::specs::Numbers::message_from, crate::specs::Numbers::is_message))]
+
 ghost use Rattle.std.specs.Prelude.{◌≡◌, ◌<◌};
 ghost use Rattle.varint.specs.Choice.{pick};
 ghost use Rattle.protocol.specs.Entries.{entry_number};
 ghost use Rattle.protocol.specs.Fields.{narrow, yes};
+ghost use Rattle.gateway.specs.Inner.Knowing.{Known};
 ghost use Rattle.gateway.specs.Numbers.{number_of, reply_fields, fetch_fields, fields_of, span_at, is_flag, message_of};
 
 use protocol::entry::Entry;
-use protocol::message::{ControlOp, ControlReply, ErrorCode, Message, Mode, Span};
+use protocol::message::{ControlOp, ControlReply, Message, Span};
+use varint::error::Refusal;
 
 // Which of the twelve a message is; an opaque payload is 0. C is told the number.
 pub(crate) fn number_of(message: Message) -> u64
     ensures { result ≡ number_of message }
 {
     match message {
-        Message::Startup { .. } => 1,
-        Message::Ready { .. } => 2,
-        Message::Error { .. } => 3,
-        Message::Complete { .. } => 4,
-        Message::Ids { .. } => 5,
-        Message::Types { .. } => 6,
-        Message::Control { .. } => 7,
-        Message::Reply(_) => 8,
-        Message::Profile { .. } => 9,
-        Message::Page { .. } => 10,
-        Message::Fetch { .. } => 11,
-        Message::ListingDigest { .. } => 12,
+        Message::Startup { .. } => Entry::Startup as u64,
+        Message::Ready { .. } => Entry::Ready as u64,
+        Message::Error { .. } => Entry::Error as u64,
+        Message::Complete { .. } => Entry::Complete as u64,
+        Message::Ids { .. } => Entry::Ids as u64,
+        Message::Types { .. } => Entry::Types as u64,
+        Message::Control { .. } => Entry::Control as u64,
+        Message::Reply(_) => Entry::Reply as u64,
+        Message::Profile { .. } => Entry::Profile as u64,
+        Message::Page { .. } => Entry::Page as u64,
+        Message::Fetch { .. } => Entry::Fetch as u64,
+        Message::ListingDigest { .. } => Entry::ListingDigest as u64,
         Message::Opaque { .. } => 0,
     }
 }
@@ -33,14 +37,28 @@ fn reply_fields(reply: ControlReply) -> [u64; 6]
     ensures { result ≡ reply_fields reply }
 {
     match reply {
-        ControlReply::Created { instance } => [1, instance.start, instance.len, 0, 0, 0],
+        ControlReply::Created { instance: i } => [
+            ControlOp::Create as u64,
+            i.start as u64,
+            i.len as u64,
+            0,
+            0,
+            0,
+        ],
         ControlReply::Finished {
             fingerprint,
             facts,
             bytes,
             already_complete,
-        } => [2, fingerprint, facts, bytes, already_complete as u64, 0],
-        ControlReply::Removed => [3, 0, 0, 0, 0, 0],
+        } => [
+            ControlOp::Finish as u64,
+            fingerprint,
+            facts,
+            bytes,
+            u64::from(already_complete),
+            0,
+        ],
+        ControlReply::Removed => [ControlOp::Remove as u64, 0, 0, 0, 0, 0],
     }
 }
 
@@ -65,10 +83,10 @@ pub(crate) fn fields_of(message: Message) -> [u64; 6]
             schema_fingerprint: f,
             claims,
         } => [
-            version as u64,
-            d.start,
-            d.len,
-            u8::from(mode) as u64,
+            u64::from(version),
+            d.start as u64,
+            d.len as u64,
+            u64::from(u8::from(mode)),
             f,
             claims,
         ],
@@ -76,8 +94,15 @@ pub(crate) fn fields_of(message: Message) -> [u64; 6]
             version,
             schema_fingerprint,
             predicates,
-        } => [version as u64, schema_fingerprint, predicates, 0, 0, 0],
-        Message::Error { code, text } => [u8::from(code) as u64, text.start, text.len, 0, 0, 0],
+        } => [u64::from(version), schema_fingerprint, predicates, 0, 0, 0],
+        Message::Error { code, text: t } => [
+            u64::from(u8::from(code)),
+            t.start as u64,
+            t.len as u64,
+            0,
+            0,
+            0,
+        ],
         Message::Complete { first, second } => [first, second, 0, 0, 0, 0],
         Message::Ids { count } => [count, 0, 0, 0, 0, 0],
         Message::Types { count } => [count, 0, 0, 0, 0, 0],
@@ -87,12 +112,12 @@ pub(crate) fn fields_of(message: Message) -> [u64; 6]
             allow_zero_facts,
             schema: s,
         } => [
-            u8::from(op) as u64,
-            d.start,
-            d.len,
-            allow_zero_facts as u64,
-            s.start,
-            s.len,
+            u64::from(u8::from(op)),
+            d.start as u64,
+            d.len as u64,
+            u64::from(allow_zero_facts),
+            s.start as u64,
+            s.len as u64,
         ],
         Message::Reply(reply) => reply_fields(reply),
         Message::Profile { steps } => [steps, 0, 0, 0, 0, 0],
@@ -100,10 +125,17 @@ pub(crate) fn fields_of(message: Message) -> [u64; 6]
             limit,
             cursor: c,
             query: q,
-        } => [limit, c.start, c.len, q.start, q.len, 0],
+        } => [
+            limit,
+            c.start as u64,
+            c.len as u64,
+            q.start as u64,
+            q.len as u64,
+            0,
+        ],
         Message::Fetch { digest, count } => fetch_fields(digest, count),
-        Message::ListingDigest { predicate, digest } => [predicate as u64, digest, 0, 0, 0, 0],
-        Message::Opaque { payload } => [payload.start, payload.len, 0, 0, 0, 0],
+        Message::ListingDigest { predicate, digest } => [u64::from(predicate), digest, 0, 0, 0, 0],
+        Message::Opaque { payload } => [payload.start as u64, payload.len as u64, 0, 0, 0, 0],
     }
 }
 
@@ -112,10 +144,15 @@ fn span_at(f: &[u64; 6], k: usize) -> Span
     requires { k < 5 }
     ensures { result ≡ span_at f.now k }
 {
-    Span {
-        start: f[k],
-        len: f[k + 1],
-    }
+    Span::of(f[k], f[k + 1])
+}
+
+// The mode, the code or the op whose byte a number is.
+fn known<T: TryFrom<u8, Error = Refusal>>(n: u64) -> Option<T>
+    ensures { Known T.try_from_gives n result }
+{
+    let byte = u8::try_from(n).ok()?;
+    T::try_from(byte).ok()
 }
 
 // A number of 32 bits.
@@ -136,13 +173,11 @@ fn flag(n: u64) -> Option<bool>
     }
 }
 
-#[tactic(auto, unfolding(crate::specs::Numbers::message_of, crate::specs::Numbers::message_from, crate::specs::Numbers::is_message))]
 fn find_startup(f: &[u64; 6]) -> Option<Message>
     ensures { result ≡ message_of 1 f.now }
 {
     let version = narrowed(f[0])?;
-    let byte = u8::try_from(f[3]).ok()?;
-    let mode = Mode::try_from(byte).ok()?;
+    let mode = known(f[3])?;
     Some(Message::Startup {
         version,
         database: span_at(f, 1),
@@ -152,7 +187,6 @@ fn find_startup(f: &[u64; 6]) -> Option<Message>
     })
 }
 
-#[tactic(auto, unfolding(crate::specs::Numbers::message_of, crate::specs::Numbers::message_from, crate::specs::Numbers::is_message))]
 fn find_ready(f: &[u64; 6]) -> Option<Message>
     ensures { result ≡ message_of 2 f.now }
 {
@@ -164,24 +198,20 @@ fn find_ready(f: &[u64; 6]) -> Option<Message>
     })
 }
 
-#[tactic(auto, unfolding(crate::specs::Numbers::message_of, crate::specs::Numbers::message_from, crate::specs::Numbers::is_message))]
 fn find_error(f: &[u64; 6]) -> Option<Message>
     ensures { result ≡ message_of 3 f.now }
 {
-    let byte = u8::try_from(f[0]).ok()?;
-    let code = ErrorCode::try_from(byte).ok()?;
+    let code = known(f[0])?;
     Some(Message::Error {
         code,
         text: span_at(f, 1),
     })
 }
 
-#[tactic(auto, unfolding(crate::specs::Numbers::message_of, crate::specs::Numbers::message_from, crate::specs::Numbers::is_message))]
 fn find_control(f: &[u64; 6]) -> Option<Message>
     ensures { result ≡ message_of 7 f.now }
 {
-    let byte = u8::try_from(f[0]).ok()?;
-    let op = ControlOp::try_from(byte).ok()?;
+    let op = known(f[0])?;
     let allow_zero_facts = flag(f[3])?;
     Some(Message::Control {
         op,
@@ -191,13 +221,10 @@ fn find_control(f: &[u64; 6]) -> Option<Message>
     })
 }
 
-#[tactic(auto, unfolding(crate::specs::Numbers::message_of, crate::specs::Numbers::message_from, crate::specs::Numbers::is_message))]
 fn find_reply(f: &[u64; 6]) -> Option<Message>
     ensures { result ≡ message_of 8 f.now }
 {
-    let byte = u8::try_from(f[0]).ok()?;
-    let op = ControlOp::try_from(byte).ok()?;
-    match op {
+    match known(f[0])? {
         ControlOp::Create => Some(Message::Reply(ControlReply::Created {
             instance: span_at(f, 1),
         })),
@@ -214,22 +241,16 @@ fn find_reply(f: &[u64; 6]) -> Option<Message>
     }
 }
 
-#[tactic(auto, unfolding(crate::specs::Numbers::message_of, crate::specs::Numbers::message_from, crate::specs::Numbers::is_message))]
 fn find_fetch(f: &[u64; 6]) -> Option<Message>
     ensures { result ≡ message_of 11 f.now }
 {
-    let digest = match f[0] {
-        0 => None,
-        1 => Some(f[1]),
-        _ => return None,
-    };
+    let has_digest = flag(f[0])?;
     Some(Message::Fetch {
-        digest,
+        digest: has_digest.then_some(f[1]),
         count: f[2],
     })
 }
 
-#[tactic(auto, unfolding(crate::specs::Numbers::message_of, crate::specs::Numbers::message_from, crate::specs::Numbers::is_message))]
 fn find_listing_digest(f: &[u64; 6]) -> Option<Message>
     ensures { result ≡ message_of 12 f.now }
 {
@@ -241,7 +262,6 @@ fn find_listing_digest(f: &[u64; 6]) -> Option<Message>
 }
 
 // The message that an entry names, of these fields, if there is one. A `match`, since C says which.
-#[tactic(auto, unfolding(crate::specs::Numbers::message_of, crate::specs::Numbers::message_from, crate::specs::Numbers::is_message))]
 pub(crate) fn message_of(entry: Entry, f: &[u64; 6]) -> Option<Message>
     ensures { result ≡ message_of (entry_number entry) f.now }
 {

@@ -3,12 +3,12 @@
 // not known to be over.
 #![tactic(auto)]
 
-ghost use Rattle.std.specs.Prelude.{◌≡◌, ◌+◌, ◌*◌, ◌<◌, ◌≤◌, IfOk, OnOk, OnErr, length, take};
-ghost use Rattle.std.specs.Io.KnownBytes.{Appends, Consumes, IsAtEnd, Keeps};
+ghost use Rattle.std.specs.Prelude.{◌≡◌, ◌+◌, ◌*◌, ◌<◌, ◌≤◌, IfOk, OnErr, length, take};
+ghost use Rattle.std.specs.Io.KnownBytes.{Consumes, IsAtEnd, Keeps};
 ghost use Rattle.io.specs.Counts.{IsPrefixLen};
 
 use frame::receiver::Receiver;
-use listing::Last;
+use listing::{BYTES, LAST_LINE, Last, NUMBERS};
 use std::io::{Error, ErrorKind, Read, Result, Write};
 use varint::error::Code;
 
@@ -17,14 +17,6 @@ const CHUNK: usize = 32768;
 
 // Room for the lines of so much: at most 84 bytes for each nine bytes, and 84 more.
 const PAGE: usize = 307200;
-
-// Hold and text have so many bytes, rows and nodes so many numbers.
-const BYTES: usize = 65536;
-
-const NUMBERS: usize = 8192;
-
-// Room for the last line.
-const LAST_LINE: usize = 29;
 
 // Reads what there is, as much as fits, and answers how much: 0 at the end of the input. A read that a signal ended is made again: the turns are counted up to a
 // number that no program uses up.
@@ -61,42 +53,14 @@ fn read_full<R: Read>(input: &mut R, buf: &mut [u8]) -> Result<usize>
     Ok(count)
 }
 
-// Writes some of `text`, as much as is taken, and answers how much. One that a signal ended is made again.
-fn write_some<W: Write>(output: &mut W, text: &[u8]) -> Result<usize>
-    ensures bound { IfOk result (λ n. n ≤ length text.now) }
-    ensures some { IfOk result (λ n. 0 < n) }
-    ensures written { IfOk result (λ n. Appends (W.contents output.old) (W.contents output.new) (take n text.now)) }
-{
-    for _ in 0..u64::MAX {
-        match output.write(text) {
-            Ok(0) => return Err(Error::from(ErrorKind::WriteZero)),
-            Ok(n) => return Ok(n),
-            Err(e) if e.kind() == ErrorKind::Interrupted => {}
-            Err(e) => return Err(e),
-        }
-    }
-    Err(Error::from(ErrorKind::Interrupted))
-}
-
-// Prints the first `len` bytes of a page. No `for`, as above.
-fn print<W: Write>(output: &mut W, page: &[u8], len: usize) -> Result<()>
-    requires { len ≤ length page.now }
-    ensures { OnOk result (Appends (W.contents output.old) (W.contents output.new) (take len page.now)) }
-{
-    let mut done = 0;
-    while done < len {
-        done += write_some(output, &page[done..len])?;
-    }
-    Ok(())
-}
-
+// Prints the last line.
 fn print_last<W: Write>(output: &mut W, last: Last) -> Result<()> {
     let mut line = [0u8; LAST_LINE];
     let n = listing::put_last(&mut line, last);
-    print(output, &line, n)
+    output.write_all(&line[..n])
 }
 
-// The memory of a run: a piece and the page of its lines, and what the receiver is lent.
+// The memory of a run: a piece and the page of its lines, and what the receiver is lent. It is fixed, as a gateway's: nothing is taken from the heap.
 #[derive(Drop)]
 struct Memory {
     chunk: [u8; CHUNK],
@@ -108,7 +72,7 @@ struct Memory {
 }
 
 // Reads the next piece of the run and prints its lines, for all of which the page has room: how the run ends if no piece follows, or nothing where this is its
-// end.
+// end. Receiver, input, output and memory stay apart: a struct of them would be made once, and be generic twice.
 fn list_next<R: Read, W: Write>(
     receiver: &mut Receiver,
     input: &mut R,
@@ -128,7 +92,7 @@ fn list_next<R: Read, W: Write>(
         &mut memory.nodes,
         &mut memory.page,
     );
-    print(output, &memory.page, listed.len)?;
+    output.write_all(&memory.page[..listed.len])?;
     Ok(Some(listed.last))
 }
 

@@ -38,7 +38,7 @@ abbrev pub run_of : World → List ℕ → Run
 run_of w p = (driving editor w (p ∷ [])).run
 
 abbrev pub line_by : FrameHeader → Result Message Refusal → List ℕ
-line_by h a = line_of h.kind h.stream h.length (number_of a)
+line_by h a = line_of h.kind.0 h.stream h.length (number_of a)
 
 -- the lines of a run from a place of the page on
 unfoldable pub from : Run → (page : List ℕ) → (at : ℕ) → Listing
@@ -118,8 +118,8 @@ module _ {to : Listing} {piece : List ℕ} {w : World} {page : List ℕ} {at len
         let i = g.within in
         (omega (arith, handed_uses editor w (drop at piece) h a handed), omega (arith, offer_within editor w (drop at piece)))
 
-    pub go_on : {number len' : ℕ} {page' : List ℕ} → number ≡ number_of a → len' ≡ declared (len + length (line_of h.kind h.stream h.length number)) → len' ≤ len + 84
-        → page' ≡ sets page len (line_of h.kind h.stream h.length number) → length page ≤ furthest → Going to piece next page' (at + o.used) len'
+    pub go_on : {number len' : ℕ} {page' : List ℕ} → number ≡ number_of a → len' ≡ declared (len + length (line_of h.kind.0 h.stream h.length number)) → len' ≤ len + 84
+        → page' ≡ sets page len (line_of h.kind.0 h.stream h.length number) → length page ≤ furthest → Going to piece next page' (at + o.used) len'
     go_on b n m q k =
         let u = ap (λ (x : Offer). x.used) offered in
         let v = ap (λ (x : Offer). x.world.receiver.progress.header_len) offered in

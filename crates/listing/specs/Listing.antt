@@ -24,7 +24,7 @@ use Rattle.listing.specs.Lines.{decimal_by, decimal, column, line_of, number_of,
 -- "Each frame is a line". A stop is no line of its own, but the last line, and so is an offer that is refused: nothing is listed after it.
 unfoldable pub lines_of : List Event → List ℕ
 lines_of [] = []
-lines_of (frame h a b ∷ es) = line_of h.kind h.stream h.length (number_of a) ++ lines_of es
+lines_of (frame h a b ∷ es) = line_of h.kind.0 h.stream h.length (number_of a) ++ lines_of es
 lines_of (halt e ∷ es) = []
 lines_of (denied e ∷ es) = []
 

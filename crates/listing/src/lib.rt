@@ -1,6 +1,6 @@
 // The lines that the lister prints, as bytes in a lent buffer: of a frame, of a piece of a run, and of its end. A writer stores what lies inside the buffer and
 // answers how many bytes its text has. The buffer and the place in it stand side by side, since `put_decimal` may be asked for a place past the end; so do text,
-// rows and nodes, as `Receiver::offer` takes them.
+// rows and nodes, as `Receiver::offer` takes them. No `Display`: the library says what `write!` writes where it succeeds, and not that it does, which these promise.
 #![tactic(auto)]
 
 ghost use Rattle.std.specs.Prelude.{◌≡◌, [], ◌∷◌, ◌+◌, ◌*◌, ◌≤◌, length};
@@ -19,7 +19,15 @@ use protocol::message::Message;
 use varint::error::{Code, Refusal};
 use varint::store::{copy_bytes, store};
 
-// How a run ends: the count of header and payload bytes that are held, or the number of the refusal that stopped it.
+// What a lister lends a receiver: hold and text have so many bytes, rows and nodes so many numbers.
+pub const BYTES: usize = 65536;
+
+pub const NUMBERS: usize = 8192;
+
+// Room for the last line.
+pub const LAST_LINE: usize = 29;
+
+// How a run ends: the count of header and payload bytes that are held, or the number of the refusal that stopped it, which is all that is printed of it.
 #[derive(Clone, Copy)]
 pub enum Last {
     Held(u64),
@@ -48,7 +56,7 @@ fn put_column(out: &mut [u8], at: usize, n: u64, end: u8) -> usize
     count + 1
 }
 
-// 0, or the number of the refusal.
+// 0, or the number of the refusal: what a line has, so no `Option`, of which the number would be made again.
 pub fn number_of(answer: Result<Message, Refusal>) -> u64
     ensures { result ≡ number_of answer }
 {
@@ -64,20 +72,17 @@ fn held_of(receiver: &Receiver) -> u64
 {
     let header = receiver.progress.header_len as u64;
     let payload = receiver.progress.payload_len as u64;
-    if u64::MAX - header < payload {
-        return u64::MAX;
-    }
-    header + payload
+    header.saturating_add(payload)
 }
 
 // The line of a frame, from the start of `out` on. It has at most 84 bytes. `number` is the refusal's number as it is printed, or 0.
 #[tactic(auto, unfolding(crate::specs::Lines::line_of), using(crate::proofs::LineLaws::sets_after, std::proofs::lemmas::Grind::common_steps))]
-pub fn put_line(out: &mut [u8], kind: u8, stream: u32, len: u32, number: u64) -> usize
-    ensures { (result ≡ length (line_of kind stream len number)) × (result ≤ 84) × (out.new ≡ sets out.old 0 (line_of kind stream len number)) }
+pub fn put_line(out: &mut [u8], header: FrameHeader, number: u64) -> usize
+    ensures { (result ≡ length (line_of header.kind.0 header.stream header.length number)) × (result ≤ 84) × (out.new ≡ sets out.old 0 (line_of header.kind.0 header.stream header.length number)) }
 {
-    let a = put_column(out, 0, kind as u64, b' ');
-    let b = a + put_column(out, a, stream as u64, b' ');
-    let c = b + put_column(out, b, len as u64, b' ');
+    let a = put_column(out, 0, u64::from(header.kind.0), b' ');
+    let b = a + put_column(out, a, u64::from(header.stream), b' ');
+    let c = b + put_column(out, b, u64::from(header.length), b' ');
     c + put_column(out, c, number, b'\n')
 }
 
@@ -86,16 +91,12 @@ pub fn put_line(out: &mut [u8], kind: u8, stream: u32, len: u32, number: u64) ->
 pub fn put_last(out: &mut [u8], last: Last) -> usize
     ensures { (result ≡ length (last_line last)) × (result ≤ 29) × (out.new ≡ sets out.old 0 (last_line last)) }
 {
-    match last {
-        Last::Held(n) => {
-            copy_bytes(b"held ", 0, 5, out, 0);
-            5 + put_column(out, 5, n, b'\n')
-        }
-        Last::Stopped(n) => {
-            copy_bytes(b"stopped ", 0, 8, out, 0);
-            8 + put_column(out, 8, n, b'\n')
-        }
-    }
+    let (word, n): (&[u8], u64) = match last {
+        Last::Held(n) => (b"held ", n),
+        Last::Stopped(n) => (b"stopped ", n),
+    };
+    copy_bytes(word, 0, word.len(), out, 0);
+    word.len() + put_column(out, word.len(), n, b'\n')
 }
 
 // A piece that was listed: how many bytes its lines have, and how the run ends if no piece follows.
@@ -109,20 +110,11 @@ pub struct Listed {
 // place past that.
 #[tactic(auto, using(crate::proofs::PageLaws::placed))]
 fn add_line(page: &mut [u8], at: usize, header: FrameHeader, number: u64) -> usize
-    ensures { (result ≡ declared (at + length (line_of header.kind header.stream header.length number))) × (result ≤ at + 84) × (page.new ≡ sets page.old at (line_of header.kind header.stream header.length number)) }
+    ensures { (result ≡ declared (at + length (line_of header.kind.0 header.stream header.length number))) × (result ≤ at + 84) × (page.new ≡ sets page.old at (line_of header.kind.0 header.stream header.length number)) }
 {
     let from = at.min(page.len());
-    let count = put_line(
-        &mut page[from..],
-        header.kind,
-        header.stream,
-        header.length,
-        number,
-    );
-    if usize::MAX - at < count {
-        return usize::MAX;
-    }
-    at + count
+    let count = put_line(&mut page[from..], header, number);
+    at.saturating_add(count)
 }
 
 // How a run ends whose last offer was answered so.

@@ -10,19 +10,25 @@ use crate::answer::{
 use crate::fault::Fault;
 use crate::fields::fields_of;
 use crate::lent::Lent;
-use crate::request::Request;
+use crate::request::{Request, clip};
+use frame::kinds::FrameKind;
 use frame::receiver::{Outcome, Progress, Receiver};
 use frame::{FrameHeader, slot};
 use std::alloc::Global;
 use std::fmt;
+use varint::text::Span;
 
 fn numbers_of(h: FrameHeader) -> [u64; 3] {
-    [u64::from(h.kind), u64::from(h.stream), u64::from(h.length)]
+    [
+        u64::from(h.kind.0),
+        u64::from(h.stream),
+        u64::from(h.length),
+    ]
 }
 
 pub fn encode_frame(request: &mut Request<'_>) -> Answer {
-    let kind = request.number()?;
-    let stream = request.number()?;
+    let kind = FrameKind(clip(request.number()?, u8::MAX));
+    let stream = clip(request.number()?, u32::MAX);
     let payload = request.bytes()?;
     let mut out = request.bytes()?;
     let written = frame::encode_frame(kind, stream, &payload, &mut out);
@@ -34,7 +40,7 @@ pub fn put_slot(request: &mut Request<'_>) -> Answer {
     let len = request.number()?;
     let text = request.bytes()?;
     let mut out = request.bytes()?;
-    let shown = slot::put_slot(&text, start, len, &mut out);
+    let shown = slot::put_slot(&text, Span { start, len }, &mut out);
     let told = tell_result(request.alloc, "shown", shown.map(|()| []))?;
     Ok(format!(in request.alloc; "{told} out {}", Hex(&out))?)
 }

@@ -4,19 +4,11 @@
 use crate::answer::Answer;
 use crate::request::Request;
 use frame::receiver::Receiver;
-use listing::Last;
+use listing::{BYTES, LAST_LINE, Last, NUMBERS};
 use std::alloc::{AllocError, Global};
 use varint::error::Code;
 
-// Text, rows and nodes are as long as those that the lister lends.
-const BYTES: usize = 65536;
-
-const NUMBERS: usize = 8192;
-
-// Room for the last line.
-const LAST_LINE: usize = 29;
-
-// The lines of a run in pieces of a size. A table that is too short has no run after it; pieces of no bytes have no lines.
+// The lines of a run in pieces of a size, over as much memory as the lister lends. A table that is too short has no run after it; pieces of no bytes have no lines.
 fn list_run(alloc: Global, size: usize, input: &[u8]) -> Result<Vec<u8>, AllocError> {
     let (table, run) = input.split_at(input.len().min(256));
     let mut hold = vec![in alloc; 0u8; BYTES]?;

@@ -30,7 +30,8 @@ fn replay_file<R: Files + Print + AllocGlobal>(rt: &R, name: &str) -> Result<()>
     let mut differ = 0u64;
     for line in BufReader::new(alloc, file)?.split(alloc, b'\n') {
         let line = line?;
-        if line.is_empty() || line.starts_with(b"#") {
+        // A line that is too long differs, whatever it starts with.
+        if line.is_empty() || (line.len() <= MAX_LINE && line.starts_with(b"#")) {
             continue;
         }
         count = count.saturating_add(1);

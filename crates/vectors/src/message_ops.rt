@@ -5,7 +5,7 @@
 use crate::answer::{Answer, tell_result, tell_written};
 use crate::fields::{fields_of, message_of};
 use crate::lent::Lent;
-use crate::request::Request;
+use crate::request::{Request, clip};
 use desc::write;
 
 pub fn decode_desc(request: &mut Request<'_>) -> Answer {
@@ -17,7 +17,7 @@ pub fn decode_desc(request: &mut Request<'_>) -> Answer {
 }
 
 pub fn decode(request: &mut Request<'_>) -> Answer {
-    let entry = request.number()?;
+    let entry = clip(request.number()?, u8::MAX);
     let payload = request.bytes()?;
     let mut lent = Lent::take(request)?;
     let message = protocol::decode(

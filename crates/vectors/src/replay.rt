@@ -26,6 +26,7 @@ pub fn replay_line(alloc: Global, line: &[u8]) -> Result<(), Fault> {
     Ok(())
 }
 
+// A `match`, since the request says which.
 fn perform(request: &mut Request<'_>) -> Answer {
     match request.name {
         "get_u64" => varint_ops::get(request, varint::get_u64),

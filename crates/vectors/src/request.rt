@@ -29,6 +29,14 @@ where
     word.parse().map_err(|_| Fault::Malformed)
 }
 
+// The number in the bits of a field; one that is too great becomes the greatest, and the answer then differs from the recorded one.
+pub fn clip<T: TryFrom<u64> + Drop>(n: u64, most: T) -> T
+where
+    T::Error: Drop,
+{
+    T::try_from(n).unwrap_or(most)
+}
+
 impl<'a> Request<'a> {
     pub fn new(alloc: Global, text: &'a str) -> Request<'a> {
         let mut words = text.split(' ');
@@ -47,6 +55,7 @@ impl<'a> Request<'a> {
         parse(self.word()?)
     }
 
+    // No `try_from_fn`: it asks that there is room for N numbers twice, which is not known of every N.
     pub fn numbers<const N: usize>(&mut self) -> Result<[u64; N], Fault> {
         let mut numbers = [0; N];
         for n in &mut numbers {
@@ -58,20 +67,14 @@ impl<'a> Request<'a> {
     // A count, and as many numbers.
     pub fn counted_numbers(&mut self) -> Result<Vec<u64>, Fault> {
         let count = self.length(MAX_NUMBERS)?;
-        let mut numbers = Vec::new(self.alloc);
-        for _ in 0..count {
-            numbers.push(self.number()?)?;
-        }
-        Ok(numbers)
+        let alloc = self.alloc;
+        (0..count).map(|_| self.number()).try_collect(alloc)
     }
 
     // The numbers up to the request's end.
     pub fn last_numbers(&mut self) -> Result<Vec<u64>, Fault> {
-        let mut numbers = Vec::new(self.alloc);
-        for word in self.words.by_ref().take(MAX_NUMBERS) {
-            numbers.push(parse(word)?)?;
-        }
-        Ok(numbers)
+        let words = self.words.by_ref().take(MAX_NUMBERS);
+        words.map(parse::<u64>).try_collect(self.alloc)
     }
 
     // Two digits in lower case for each byte, and `-` for no bytes.

@@ -1,7 +1,8 @@
 // The operations of the crate `varint`.
 //
 // A request has the numbers first, in the order of the operation's parameters, and then the slices: as their bytes, or, for a
-// writer, as the buffer's length. An answer has the whole buffer.
+// writer, as the buffer's length. An answer has the whole buffer. A function for each shape
+// of arguments and of answer: what two of them share is a line or two.
 use crate::answer::{Answer, Hex, Numbers, tell_refusal, tell_written};
 use crate::request::Request;
 use std::fmt::Display;
@@ -126,7 +127,8 @@ pub fn copy_bytes(request: &mut Request<'_>) -> Answer {
     Ok(format!(in request.alloc; "out {}", Hex(&dst))?)
 }
 
-// A buffer of numbers before a call.
+// A buffer of numbers before a call. Bytes come with the request and are told by their digits, so what stores numbers is no twin of what stores bytes: one function
+// of both would be lent the buffer and how it is told.
 const NUMBERS: [u64; 4] = [165; 4];
 
 pub fn store_number(request: &mut Request<'_>) -> Answer {

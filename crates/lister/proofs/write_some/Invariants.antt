@@ -1,6 +1,0 @@
--- A write that failed wrote nothing.
-use Rattle.std.specs.Io.KnownBytes.{Keeps}
-use Rattle.lister.proofs.write_some.Given as goal
-
-abbrev pub invariant-loop : goal.invariant-loop
-invariant-loop g l = Keeps (g.W.Write.contents l.initial.output) (g.W.Write.contents l.output)
