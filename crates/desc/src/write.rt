@@ -1,5 +1,6 @@
-// Writing descriptors: a node table and its texts back to bytes. Public functions take text and nodes apart: their callers hold them in structs of their own. Whoever writes within other bytes lends a buffer with a place beside it, and not the rest
-// of the buffer: past the end nothing is stored, and the place goes on, which tells how long the whole would be.
+// Writing descriptors: a node table and its texts back to bytes. Public functions take text and nodes apart: their callers hold them in structs of their own.
+// Whoever writes within other bytes lends a buffer with a place beside it, and not the rest of the buffer: past the end nothing is stored, and the place
+// goes on, which tells how long the whole would be.
 ghost use Rattle.std.specs.Prelude.{ℕ, [], true, false, ◌&&◌, ◌||◌, ◌≡◌, ◌+◌, ◌-◌, ◌/◌, ◌≤◌, ◌<◌, leb, eqb, length, MatchOption};
 ghost use Rattle.varint.specs.Choice.{pick};
 ghost use Rattle.varint.specs.Gathering.{name_held};

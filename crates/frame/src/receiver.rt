@@ -15,7 +15,8 @@ use protocol::message::Message;
 use varint::error::{Buffer, Code, Refusal};
 use varint::store::{copy_bytes, fill_from};
 
-// What an offer advances. A stop is the refusal's number and details, and 0 while the receiver runs: numbers, and each by itself, since this is memory that C lends and names so.
+// What an offer advances. A stop is the refusal's number and details, and 0 while the receiver runs: numbers, and each by itself, since this is memory that
+// C lends and names so.
 #[repr(C)]
 #[derive(Clone, Copy)]
 pub struct Progress {

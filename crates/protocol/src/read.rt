@@ -1,5 +1,6 @@
 // Reading whole messages, each as its layout says. In the reading that does not check, texts, rows and nodes are stored. Each reader asks for a memory of which
-// nothing is taken (`Empty`), so that what it takes is where the memory stands in the end: a message's first text stands at the start of text, and no place overflows, since a payload has a byte for each that is passed.
+// nothing is taken (`Empty`), so that what it takes is where the memory stands in the end: a message's first text stands at the start of text, and no place
+// overflows, since a payload has a byte for each that is passed.
 // A step takes a place in the payload beside it, as the readers of fields do (fields.rt).
 ghost use Rattle.std.specs.Prelude.{◌≡◌};
 ghost use Rattle.varint.specs.Runs.{end_of, values_of};

@@ -29,7 +29,8 @@ fn size_message(message: &Message, lent: &Lent<'_>) -> usize
     write_message(message, lent, &mut [])
 }
 
-// The longest payload and the depth of descriptors are parameters, so that it is proved for any. A size of 2^64−1 may stand for a greater one, and is over any `max` there is.
+// The longest payload and the depth of descriptors are parameters, so that it is proved for any. A size of 2^64−1 may stand for a greater one, and is over
+// any `max` there is.
 #[tactic(auto, using(crate::proofs::Encodes::encode_refused, crate::proofs::Encodes::encode_big, crate::proofs::Encodes::encode_small))]
 fn encode_within(message: &Message, max: u64, lent: &Lent<'_>, out: &mut [u8]) -> Written
     requires { max ≤ 4294967296 }

@@ -8,7 +8,6 @@ use lib.Dec.{ltb, eqb}
 use lib.ListN.{length, get_or, drop}
 use Rattle.varint.specs.Leb128.{read_from, get_u64}
 use Rattle.varint.proofs.ReadLaws.{more, end_value, read_at, weight_8, payload, next_weight}
-use Rattle.varint.proofs.VarintLaws.{last_below}
 use Rattle.std.specs.Prelude.{Ok}
 
 -- After i bytes of the varint at place `at` the loop is at place p: their value, and the weight of the next byte.
@@ -37,12 +36,6 @@ module _ {s : List ℕ} {at value unit i p : ℕ} (g : Going s at value unit i p
   pub going_last : p < length s → {b : ℕ} → b ≡ get_or s p 0 → b < 128 → (ltb 0 i && eqb b 0) ≡ false → (eqb i 9 && ltb 1 b) ≡ false
       → get_u64 s at ≡ Ok (value + b * unit, p + 1)
   going_last h {b} e small t u = going_at h e ∙ end_value b (drop (p + 1) s) p i value small t u ∙ rw g.power
-
-  pub going_last_fits : {b : ℕ} → b < 128 → (eqb i 9 && ltb 1 b) ≡ false → value + b * unit < 2 ^ 64
-  going_last_fits {b} small u =
-      let m : b % 128 ≡ b = omega arith in
-      let low : value < 128 ^ i = rw g.power at g.low in
-      rw g.power (last_below b i value g.nine low small (rw m u))
 
   -- past a byte that is not the last
   pub going_more : p < length s → {b : ℕ} → b ≡ get_or s p 0 → b < 256 → 128 ≤ b → (i ≡ 9 → ⊥)

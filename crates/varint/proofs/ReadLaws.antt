@@ -1,5 +1,5 @@
 -- Laws of reading a varint: a byte of each kind, sizes, and where a varint ends.
-use mathlib.Core.Bool.{true, false, ◌&&◌, and-false}
+use mathlib.Core.Bool.{false, ◌&&◌, and-false}
 use mathlib.Core.Logic.{⊎_elim}
 use mathlib.Core.Path.{◌≡◌, refl, sym, ◌∙◌, ap}
 use mathlib.Core.List.{List, [], ◌∷◌, ◌++◌}
@@ -10,10 +10,10 @@ use native.Mathlib.Omega.{arith}
 use lib.Dec.{ltb, eqb, lit<}
 use lib.ListN.{length, get_or, take, drop, drop_of_length-le, length-drop, take-append-drop}
 use lib.Seq.{drop-cons}
-use borrow.Author.Tests.{lt-ltb, le-ltb, ne_eqb, ltb-true, eqb-true}
+use borrow.Author.Tests.{lt-ltb, le-ltb, ne_eqb}
 use Rattle.varint.specs.Leb128.{read_from, get_u64}
 use Rattle.varint.specs.declared.error.Refusal.TheVariants.{UnexpectedEof, VarintOverflow, VarintNotMinimal}
-use Rattle.varint.proofs.Basics.{pick_same, pick_both, pick_two, both, below}
+use Rattle.varint.proofs.Basics.{pick_same, pick_both, pick_two, below}
 use Rattle.std.specs.Prelude.{Ok, Err}
 use Rattle.varint.specs.Got.{Got}
 
@@ -55,16 +55,6 @@ module _ (b : ℕ) (s : List ℕ) (p i v : ℕ) where
   more hb h9 = simp (ne_eqb i 9 (omega arith), le-ltb b 128 hb)
 
   -- a last byte, by the tests themselves
-  pub end_zero : i ≤ 9 → (ltb 0 i && eqb b 0) ≡ true → read_from (b ∷ s) p i v ≡ Err VarintNotMinimal
-  end_zero h t =
-      let t' = both (ltb 0 i) (eqb b 0) t in
-      let z : b ≡ 0 = eqb-true b 0 t'.1 in
-      let k : 0 < i = ltb-true 0 i t'.0 in
-      ⊎_elim (λ (l : i < 9). last_zero z k l) (λ (l : 9 ≤ i). tenth_zero z (omega arith)) (below i 9)
-
-  pub end_over : b < 256 → (eqb i 9 && ltb 1 b) ≡ true → read_from (b ∷ s) p i v ≡ Err VarintOverflow
-  end_over h t = let t' = both (eqb i 9) (ltb 1 b) t in tenth_more h (ltb-true 1 b t'.1) (eqb-true i 9 t'.0)
-
   pub end_value : b < 128 → (ltb 0 i && eqb b 0) ≡ false → (eqb i 9 && ltb 1 b) ≡ false → read_from (b ∷ s) p i v ≡ Ok (v + b * 128 ^ i, p + 1)
   unfolding read_from
   end_value h t u = let e : b % 128 ≡ b = omega arith in simp (e, lt-ltb b 128 h, t, u)

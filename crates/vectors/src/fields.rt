@@ -1,5 +1,6 @@
-// A message as seven numbers, told and read apart from the gateway's numbers, so that the one shows what the other might have wrong: the number of the message, 0 for an opaque payload, and its fields in their order; a text is two of them, its start
-// and its length. A control reply's first field is its op, a fetch's whether it has a digest. What is over is 0.
+// A message as seven numbers: the number of the message, 0 for an opaque payload, and its fields in their order; a text is two of them, its start and its
+// length. A control reply's first field is its op, a fetch's whether it has a digest. What is over is 0. They are told and read apart from the gateway's,
+// so that the one shows what the other might have wrong.
 use crate::fault::Fault;
 use crate::request::clip;
 use protocol::message::{ControlReply, Message, Span};
