@@ -5,8 +5,7 @@ use mathlib.Core.List.{List}
 use Prim.Native.Nat.{ℕ, suc}
 use lib.ListN.{length}
 use Rattle.varint.specs.Got.{Got, then}
-use Rattle.varint.specs.Formats.{Format, got_text, named, read_times, counted}
-use Rattle.varint.specs.Leb128.{get_u64}
+use Rattle.varint.specs.Formats.{Format, got_text, read_times}
 use Rattle.varint.specs.Texts.{skim_text, get_text, get_name}
 use Rattle.varint.specs.Inner.Again.{Accepted, Again}
 use Rattle.varint.proofs.FormatParts.{get_name_lem}
@@ -28,16 +27,6 @@ pub first : {A B : Type 0} (x : Got A) (k : A → ℕ → Got B) → Accepted (t
 first (Ok (a, q)) k h = tt
 first (Err e) k h = h
 
-pub again_first : {A B : Type 0} (x : Got A) (k : A → ℕ → Got B) {check : Bool} → Again check (then x k) → Again check x
-again_first x k h z = first x k (h z)
-
-module _ {check : Bool} (s : List ℕ) (at : ℕ) where
-  pub again_under : {A B : Type 0} (to : A → B) (from : B → A) (f : Format A) → Again check ((named to from f).read s at) → Again check (f.read s at)
-  again_under to from f = again_first (f.read s at) _
-
-  pub again_counted : {A : Type 0} (f : Format A) {n p : ℕ} → get_u64 s at ≡ Ok (n, p) → Again check ((counted f).read s at) → Again check (read_times f n s p)
-  again_counted f e h z = rw e at (h z)
-
 -- of things in a row that were accepted, the first was, and the others
 module _ {A : Type 0} (f : Format A) (n : ℕ) (s : List ℕ) (at : ℕ) {check : Bool} (h : Again check (read_times f (suc n) s at)) where
   pub again_row : Again check (f.read s at)
@@ -49,15 +38,20 @@ module _ {A : Type 0} (f : Format A) (n : ℕ) (s : List ℕ) (at : ℕ) {check 
   again_others {q = q} e z = first (read_times f n s q) _ (rw e at (h z))
 
 -- a text that was accepted is found again
-pub text_again : (s : List ℕ) (at : ℕ) → Accepted (got_text s (get_text s at)) → skim_text s at ≡ get_text s at
+pub text_again : (s : List ℕ) (at : ℕ) → Accepted (get_text s at) → skim_text s at ≡ get_text s at
 text_again s at = go (get_text s at) refl
   where
-    go : (x : Got Span) → get_text s at ≡ x → Accepted (got_text s x) → skim_text s at ≡ get_text s at
+    go : (x : Got Span) → get_text s at ≡ x → Accepted x → skim_text s at ≡ get_text s at
     go (Ok (t, q)) i h = text_skims s at t.start t.len q i ∙ sym i
     go (Err e) i h = absurd h
 
-pub name_again : (s : List ℕ) (at : ℕ) → Accepted (got_text s (get_name s at)) → skim_text s at ≡ get_name s at
+pub name_again : (s : List ℕ) (at : ℕ) → Accepted (get_name s at) → skim_text s at ≡ get_name s at
 name_again s at h = rw get_name_lem (text_again s at (rw get_name_lem at h))
+
+-- the bytes of a text that was accepted were found
+pub again_found : (s : List ℕ) (x : Got Span) {check : Bool} → Again check (got_text s x) → Again check x
+again_found s (Ok (t, q)) h z = tt
+again_found s (Err e) h z = h z
 
 -- where a text that was read lies
 pub text_ends : (s : List ℕ) (at : ℕ) → TextEnds at (length s) (get_text s at)

@@ -7,6 +7,7 @@
 
 pub mod error;
 pub mod fixed;
+pub mod inner;
 pub mod run;
 pub mod signed;
 pub mod store;

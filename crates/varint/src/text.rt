@@ -50,10 +50,10 @@ fn span_of(s: &[u8], n: u64, start: usize) -> Got<Span>
     Ok((Span { start, len }, start + len))
 }
 
-// Where the text at place `at` of `s` lies. Its bytes are not looked at: this is for what was read before.
+// Where the text at place `at` of `s` lies. Its bytes are not looked at: `get_str` does that, and `inner` relies on it.
 #[inline(always)]
 #[tactic(auto, unfolding(crate::specs::Texts::skim_text))]
-pub fn skim_str(s: &[u8], at: usize) -> Got<Span>
+pub(crate) fn skim_str(s: &[u8], at: usize) -> Got<Span>
     ensures { result ≡ skim_text s.now at }
 {
     let (n, start) = crate::get_u64(s, at)?;
