@@ -1,25 +1,20 @@
 -- Each byte of text and each node of a descriptor costs a byte that was read.
-use mathlib.Core.Bool.{Bool}
-use mathlib.Core.Path.{◌≡◌, refl}
+use mathlib.Core.Path.{◌≡◌}
 use mathlib.Core.List.{List}
 use Prim.Native.Nat.{ℕ, ◌+◌, ◌≤◌}
 use native.Mathlib.Omega.{arith}
 use lib.ListN.{length, length-append}
-use Rattle.varint.specs.Got.{Got}
 use Rattle.varint.specs.Stores.{part}
 use Rattle.varint.proofs.StoreLaws.{length_part}
-use Rattle.desc.specs.Decoding.{measured, walked_to}
 use Rattle.desc.specs.Layout.{texts, kid_texts}
 use Rattle.desc.specs.Reading.{desc}
 use Rattle.desc.specs.Trees.{Tree, Kids, size, kid_size}
 use Rattle.desc.proofs.GotAs.{got_as}
 use Rattle.desc.proofs.HeadLaws.{leaf_inside, branch_inside, label_inside}
-use Rattle.desc.proofs.MeasureLaws.{walked_of}
 use Rattle.desc.proofs.ReadInduction.{Steps, desc_as}
-use Rattle.std.specs.Prelude.{Ok, Err}
-use Rattle.varint.proofs.Basics.{never}
+use Rattle.std.specs.Prelude.{Ok}
 
-module _ (check : Bool) (limit : ℕ) (s : List ℕ) where
+module _ (limit : ℕ) (s : List ℕ) where
   -- a descriptor, or parts of one, read from a place inside
   abbrev Fits : ℕ → Tree (List ℕ) → ℕ → Type 0
   Fits at tr q = at ≤ length s → (at + (length (texts tr) + size tr) ≤ q) × (q ≤ length s)
@@ -27,7 +22,7 @@ module _ (check : Bool) (limit : ℕ) (s : List ℕ) where
   abbrev KidsFit : ℕ → Kids (List ℕ) → ℕ → Type 0
   KidsFit p ks q = p ≤ length s → (p + (length (kid_texts ks) + kid_size ks) ≤ q) × (q ≤ length s)
 
-  steps : Steps check limit s (λ depth at tr q. Fits at tr q) (λ depth tag n p ks q. KidsFit p ks q)
+  steps : Steps limit s (λ depth at tr q. Fits at tr q) (λ depth tag n p ks q. KidsFit p ks q)
   unfolding texts size
   steps =
       record {
@@ -40,7 +35,7 @@ module _ (check : Bool) (limit : ℕ) (s : List ℕ) where
             (omega arith, f.1);
         on_none = λ depth tag p h. (omega arith, h);
         on_more = λ depth tag n p start len d q t e ks f i a k h.
-            let w = label_inside check s tag p start len d q i in
+            let w = label_inside s tag p start len d q i in
             let w₀ = w.0 in
             let w₁ = w.1 in
             let w₂ = w.2 in
@@ -53,25 +48,7 @@ module _ (check : Bool) (limit : ℕ) (s : List ℕ) where
       }
 
 -- a descriptor of n bytes has at most n bytes of text and nodes together
-pub desc_bounds : (check : Bool) (limit depth : ℕ) (s : List ℕ) (at : ℕ) (tr : Tree (List ℕ)) (q : ℕ)
-    → at ≤ length s → desc check limit depth s at ≡ Ok (tr, q) → (at + (length (texts tr) + size tr) ≤ q) × (q ≤ length s)
-desc_bounds check limit depth s at tr q h e =
-    got_as (Fits check limit s at) (desc check limit depth s at) tr q (desc_as check limit s _ _ (steps check limit s) depth at) e h
-
--- the same of its measure
-pub measured_bounds : (check : Bool) (limit depth : ℕ) (s : List ℕ) (at q t m : ℕ)
-    → at ≤ length s → measured (desc check limit depth s at) ≡ Ok (walked_to q t m) → (at + (t + m) ≤ q) × (q ≤ length s)
-unfolding measured
-measured_bounds check limit depth s at q t m h e = on (desc check limit depth s at) refl e
-  where
-    on : (x : Got (Tree (List ℕ))) → desc check limit depth s at ≡ x → measured x ≡ Ok (walked_to q t m) → (at + (t + m) ≤ q) × (q ≤ length s)
-    on (Ok (tr, o)) i g =
-        let f = desc_bounds check limit depth s at tr o h i in
-        let f₀ = f.0 in
-        let f₁ = f.1 in
-        let w = walked_of g in
-        let w₀ = w.0 in
-        let w₁ = w.1 in
-        let w₂ = w.2 in
-        (omega arith, omega arith)
-    on (Err r) i g = never cc
+pub desc_bounds : (limit depth : ℕ) (s : List ℕ) (at : ℕ) (tr : Tree (List ℕ)) (q : ℕ)
+    → at ≤ length s → desc limit depth s at ≡ Ok (tr, q) → (at + (length (texts tr) + size tr) ≤ q) × (q ≤ length s)
+desc_bounds limit depth s at tr q h e =
+    got_as (Fits limit s at) (desc limit depth s at) tr q (desc_as limit s _ _ (steps limit s) depth at) e h

@@ -9,11 +9,13 @@ use lib.ListN.{get_or}
 use borrow.Author.Tests.{eq-eqb, ne_eqb, eqb-true, eqb-false}
 use Rattle.varint.specs.Choice.{pick}
 use Rattle.varint.specs.Got.{Got, then}
+use Rattle.varint.specs.Inner.Again.{Accepted, Again}
+use Rattle.varint.proofs.Agains.{first as first_of}
 use Rattle.varint.specs.declared.error.Fault.TheVariants.{Layout}
 use Rattle.varint.specs.declared.error.Refusal.TheVariants.{BadMessage}
 use Rattle.varint.proofs.Basics.{test, never, clash}
-use Rattle.desc.specs.Emitting.{Pen, put_number, put_where, put_label, put_tree, put_kids}
-use Rattle.desc.specs.Inner.Emission.{Emission, wrong, done, emission, told, put_before}
+use Rattle.desc.specs.Emitting.{Pen, put_number}
+use Rattle.desc.specs.Inner.Emission.{wrong, done, emission, kids_emission, told, put_before, put_where, put_label, put_tree, put_kids}
 use Rattle.desc.specs.Inner.Rows.{row_at}
 use Rattle.desc.specs.Layout.{NameSpan}
 use Rattle.desc.specs.Table.{cell, node_fits, is_branch, kids_at, closed_at, table}
@@ -22,11 +24,6 @@ use Rattle.desc.proofs.EmitPens.{before_part}
 use Rattle.desc.proofs.TableKids.{kid_count_lem}
 use Rattle.std.specs.Bool.{then_some}
 use Rattle.std.specs.Prelude.{Ok, Err, Some, None, Option}
-
--- what writing the children that are left does to the buffer
-unfoldable pub kids_emission : List ℕ → ℕ → Got (Kids NameSpan) → Pen → Emission
-kids_emission tx tag (Ok (ks, next)) s = done next (put_kids tx tag ks s)
-kids_emission tx tag (Err e) s = wrong
 
 module _ (tx : List ℕ) (tag : ℕ) (name : NameSpan) (d : ℕ) (s : Pen) where
   more_law : (t : Tree NameSpan) (K : Got (Kids NameSpan))
@@ -70,13 +67,19 @@ module _ (r : ℕ → ℕ → Got (Tree NameSpan)) (tx nd : List ℕ) (tag count
       (first_done tx tag (cell nd m 1, cell nd m 2) (cell nd m 3) s (r m tag) (kids_at r nd tag (count - (i + 1))) m₂ o
       (ap (λ (x : Option ℕ). told x o) (sym h) ∙ told_after))
 
-  pub turn_wrong : R ≡ None → kids_emission tx tag (kids_at r nd tag (count - i) m) s ≡ wrong
+  pub turn_wrong : R ≡ None → kids_emission tx tag (kids_at r nd tag (count - i) m) s ≡ told None o
   unfolding told kids_at
   turn_wrong h =
       let e : count - i ≡ suc (count - (i + 1)) = omega arith in
       rw e
       (first_wrong tx tag (cell nd m 1, cell nd m 2) (cell nd m 3) s (r m tag) (kids_at r nd tag (count - (i + 1)))
       (ap (λ (x : Option ℕ). told x o) (sym h) ∙ told_after))
+
+-- no child is left
+pub kids_end : (r : ℕ → ℕ → Got (Tree NameSpan)) (tx nd : List ℕ) (tag count i m : ℕ) (s : Pen) → count ≤ i
+    → kids_emission tx tag (kids_at r nd tag (count - i) m) s ≡ told (Some m) s
+unfolding kids_emission kids_at put_kids told
+kids_end r tx nd tag count i m s past = let e : count - i ≡ 0 = omega arith in rw e
 
 deeper : (d : ℕ) (nd : List ℕ) (n parent : ℕ) → (d ≡ 0 → ⊥)
     → table d nd n parent
@@ -148,19 +151,14 @@ module _ (tx nd : List ℕ) (d n parent : ℕ) (s o : Pen) where
     abbrev kids : Got (Kids NameSpan)
     kids = kids_at (table (d - 1) nd) nd tag count (n + 1)
 
-    pub emit_stopped : kids_emission tx tag kids s₁ ≡ wrong → told None o ≡ emission tx (table d nd n parent) s
+    pub emit_stopped : told None o ≡ kids_emission tx tag kids s₁ → told None o ≡ emission tx (table d nd n parent) s
     unfolding told
-    emit_stopped h = rw is (kids_wrong tx tag end kids s s₁ h)
+    emit_stopped h = rw is (kids_wrong tx tag end kids s s₁ (sym h))
 
-    module _ (i m : ℕ) (past : count ≤ i)
-        (inv : kids_emission tx tag kids s₁ ≡ kids_emission tx tag (kids_at (table (d - 1) nd) nd tag (count - i) m) o) where
-      ended : kids_emission tx tag kids s₁ ≡ done m o
-      unfolding kids_emission kids_at put_kids
-      ended = let e : count - i ≡ 0 = omega arith in inv ∙ rw e
-
+    module _ (m : ℕ) (ended : told (Some m) o ≡ kids_emission tx tag kids s₁) where
       emit_open : (end ≡ m → ⊥) → told None o ≡ emission tx (table d nd n parent) s
       unfolding told
-      emit_open q = rw is (kids_open tx tag end kids m s s₁ o ended q)
+      emit_open q = rw is (kids_open tx tag end kids m s s₁ o (sym ended) q)
 
       emit_branch : end ≡ m → s₁ ≡ put_number count (put_number tag s) → told (Some m) o ≡ emission tx (table d nd n parent) s
       unfolding told
@@ -168,7 +166,7 @@ module _ (tx nd : List ℕ) (d n parent : ℕ) (s o : Pen) where
           rw is
           (kids_closed tx tag end count kids m s s₁ o
           (λ ks e h. kid_count_lem (table (d - 1) nd) nd tag count (n + 1) e ks h)
-          ended q w)
+          (sym ended) q w)
 
       -- by the comparison of its end
       pub emit_closed : (R : Option ℕ) → s₁ ≡ put_number count (put_number tag s) → R ≡ then_some (eqb end m) m
@@ -177,3 +175,38 @@ module _ (tx nd : List ℕ) (d n parent : ℕ) (s o : Pen) where
           test (eqb end m)
           (λ e. rw (h, e) (emit_branch (eqb-true end m e) w))
           (λ e. rw (h, e) (emit_open (eqb-false end m e)))
+
+-- A table that was found to be laid out
+
+-- its node fits
+pub again_fits : {check : Bool} (nd : List ℕ) (d n parent : ℕ) → (d ≡ 0 → ⊥) → Again check (table d nd n parent) → check ≡ false → node_fits nd n parent ≡ true
+again_fits nd d n parent z h c =
+    test (node_fits nd n parent)
+    (λ f. f)
+    (λ f. absurd (rw (node_unfit nd d n parent z f) at (h c)))
+
+-- so do the children of one with parts
+pub again_closed : {check : Bool} (tag end : ℕ) (D : Got (Tree NameSpan)) (K : Got (Kids NameSpan)) → D ≡ closed_at tag end K → Again check D → Again check K
+again_closed tag end D (Ok (ks, m)) e h c = tt
+again_closed tag end D (Err x) e h c = rw e at (h c)
+
+module _ {check : Bool} (r : ℕ → ℕ → Got (Tree NameSpan)) (nd : List ℕ) (tag count i m : ℕ) (less : i < count)
+    (h : Again check (kids_at r nd tag (count - i) m)) where
+  abbrev rest : Got (Tree NameSpan) → Got (Kids NameSpan)
+  rest D = then D (λ t e. then (kids_at r nd tag (count - (i + 1)) e) (λ ks f. Ok (more (cell nd m 1, cell nd m 2) (cell nd m 3) t ks, f)))
+
+  here : Again check (rest (r m tag))
+  unfolding kids_at
+  here = let e : count - i ≡ suc (count - (i + 1)) = omega arith in rw e at h
+
+  pub again_child : Again check (r m tag)
+  again_child c = first_of (r m tag) _ (here c)
+
+  pub again_others : (tx : List ℕ) (R : Option ℕ) (o s : Pen) (m₂ : ℕ) → told R o ≡ emission tx (r m tag) s → R ≡ Some m₂
+      → Again check (kids_at r nd tag (count - (i + 1)) m₂)
+  unfolding told emission
+  again_others tx R o s m₂ is g c = go (r m tag) (ap (λ (x : Option ℕ). told x o) (sym g) ∙ is) (here c)
+    where
+      go : (D : Got (Tree NameSpan)) → told (Some m₂) o ≡ emission tx D s → Accepted (rest D) → Accepted (kids_at r nd tag (count - (i + 1)) m₂)
+      go (Ok (t, e)) w a = let q : m₂ ≡ e = cc in rw q (first_of (kids_at r nd tag (count - (i + 1)) e) _ a)
+      go (Err x) w a = absurd a

@@ -8,8 +8,8 @@ use borrow.Author.Tests.{eq-eqb, ne_eqb}
 use lib.ListN.{length, get_or, set}
 use Rattle.varint.specs.Outs.{declared}
 use Rattle.varint.proofs.PutLaws.{put_small}
-use Rattle.desc.specs.Emitting.{Pen, put_bytes, put_number, put_where, put_name, put_label}
-use Rattle.desc.specs.Inner.Emission.{put_before, emission, told}
+use Rattle.desc.specs.Emitting.{Pen, put_bytes, put_number, put_name}
+use Rattle.desc.specs.Inner.Emission.{put_before, emission, told, put_where, put_label}
 use Rattle.desc.specs.Layout.{NameSpan}
 use Rattle.desc.specs.Trees.{Tree}
 use Rattle.std.specs.Prelude.{Option}

@@ -18,7 +18,8 @@ use Rattle.varint.specs.Stores.{part}
 use Rattle.varint.specs.Utf8.{utf8}
 use Rattle.varint.proofs.Basics.{pick_cases, below}
 use Rattle.varint.proofs.StoreLaws.{sets_append, sets_out, length_part}
-use Rattle.desc.specs.Emitting.{Pen, put_bytes, put_number, put_where, put_name, put_label, put_tree, put_kids}
+use Rattle.desc.specs.Emitting.{Pen, put_bytes, put_number, put_name}
+use Rattle.desc.specs.Inner.Emission.{put_where, put_label, put_tree, put_kids}
 use Rattle.desc.specs.Layout.{NameSpan}
 use Rattle.desc.specs.Printing.{print, print_kids}
 use Rattle.desc.specs.Table.{gather, gather_kids}

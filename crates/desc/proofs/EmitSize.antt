@@ -10,8 +10,8 @@ use Rattle.varint.specs.Choice.{pick}
 use Rattle.varint.specs.Got.{Got}
 use Rattle.varint.specs.Leb128.{put_u64}
 use Rattle.varint.specs.Outs.{declared}
-use Rattle.desc.specs.Emitting.{Pen, put_bytes, put_number, put_where, put_name, put_label, put_tree, put_kids, span_size, kids_span, sized, emitted_to}
-use Rattle.desc.specs.Inner.Emission.{emission, told}
+use Rattle.desc.specs.Emitting.{Pen, put_bytes, put_number, put_name, span_size, kids_span, sized, emitted_to}
+use Rattle.desc.specs.Inner.Emission.{emission, told, put_where, put_label, put_tree, put_kids}
 use Rattle.desc.specs.Layout.{NameSpan}
 use Rattle.desc.specs.Trees.{Tree, leaf, branch, Kids, none, more, kid_count}
 use Rattle.desc.proofs.EmitPrint.{last}
@@ -19,22 +19,22 @@ use Rattle.std.specs.Prelude.{Ok, Err, Some, None}
 use Rattle.varint.proofs.Basics.{never}
 
 -- the place was p, and moved on by n
-Moved : ℕ → ℕ → Pen → Type 0
+unfoldable pub Moved : ℕ → ℕ → Pen → Type 0
 Moved p n s = s.place ≡ declared (p + n)
 
-on : (p n k : ℕ) (s s₁ : Pen) → Moved p n s → s₁.place ≡ declared (s.place + k) → Moved p (n + k) s₁
+pub on : (p n k : ℕ) (s s₁ : Pen) → Moved p n s → s₁.place ≡ declared (s.place + k) → Moved p (n + k) s₁
 unfolding Moved
 on p n k s s₁ h e = e ∙ rw h (omega arith)
 
-add : (p n k : ℕ) (s : Pen) → Moved p n s → n ≡ k → Moved p k s
+pub add : (p n k : ℕ) (s : Pen) → Moved p n s → n ≡ k → Moved p k s
 add p n k s h e = rw (← e) h
 
 module _ (p : ℕ) where
-  number_moved : (v n : ℕ) (s : Pen) → Moved p n s → Moved p (n + length (put_u64 v)) (put_number v s)
+  pub number_moved : (v n : ℕ) (s : Pen) → Moved p n s → Moved p (n + length (put_u64 v)) (put_number v s)
   unfolding put_number put_bytes
   number_moved v n s h = on p n (length (put_u64 v)) s (put_number v s) h refl
 
-  name_moved : (tx : List ℕ) (name : NameSpan) (n : ℕ) (s : Pen) → Moved p n s → Moved p (n + name.1) (put_name tx name s)
+  pub name_moved : (tx : List ℕ) (name : NameSpan) (n : ℕ) (s : Pen) → Moved p n s → Moved p (n + name.1) (put_name tx name s)
   unfolding put_name
   name_moved tx name n s h = on p n name.1 s (put_name tx name s) h refl
 
@@ -46,7 +46,7 @@ module _ (p : ℕ) where
   mutual
     unfolding put_tree put_label span_size
 
-    tree_moved : (tx : List ℕ) (t : Tree NameSpan) (n : ℕ) (s : Pen) → Moved p n s → Moved p (n + span_size t) (put_tree tx t s)
+    pub tree_moved : (tx : List ℕ) (t : Tree NameSpan) (n : ℕ) (s : Pen) → Moved p n s → Moved p (n + span_size t) (put_tree tx t s)
     tree_moved tx (leaf tag q) n s h =
         let T = length (put_u64 tag) in
         let Q = pick (eqb tag 2) (length (put_u64 q)) 0 in

@@ -12,7 +12,7 @@ use Rattle.varint.specs.declared.error.Refusal.{Refusal}
 use Rattle.varint.specs.declared.error.Refusal.TheVariants.{BadMessage}
 use Rattle.desc.specs.declared.write.Emitted.{Emitted}
 use Rattle.desc.specs.Emitting.{Pen, put_bytes, span_size, sized, verdict, names_from, emitted_to}
-use Rattle.desc.specs.Inner.Emission.{done, emission, told}
+use Rattle.desc.specs.Inner.Emission.{put_at}
 use Rattle.desc.specs.Encoding.{held_in}
 use Rattle.desc.specs.Layout.{NameSpan}
 use Rattle.desc.specs.Printing.{print}
@@ -30,16 +30,16 @@ pub record Whole (tx : List ℕ) (D : Got (Tree NameSpan)) (next place : ℕ) : 
   pub tree : Tree (List ℕ)
   pub is : held_in D tx ≡ held tree
   pub size : place ≡ declared (length (print tree))
-  pub puts : (s : Pen) → Roomy s → emission tx D s ≡ done next (put_bytes (print tree) s)
+  pub puts : (s : Pen) → Roomy s → put_at tx D s ≡ put_bytes (print tree) s
 
 whole_of : (tx : List ℕ) (t : Tree NameSpan) (e : ℕ) (H : Held (Tree (List ℕ))) → gather tx t ≡ H → verdict H ≡ Ok tt → Whole tx (Ok (t, e)) e (declared (span_size t))
-unfolding held_in emission verdict
+unfolding held_in put_at verdict
 whole_of tx t e (held u) g v =
     record {
       tree = u;
       is = g;
       size = ap declared (span_print tx t u g);
-      puts = λ s h. ap (done e) (put_print tx t u s g h);
+      puts = λ s h. put_print tx t u s g h;
     }
 whole_of tx t e (lacks x) g v = never cc
 
@@ -86,12 +86,6 @@ module _ (tx nd : List ℕ) (limit n : ℕ) (R : Option Emitted) (sizes : R ≡ 
     whole h = good_of tx e a v (table limit nd n 0) verdict_is (sym sizes ∙ is) h
 
 -- the buffer after a tree was written
-told_out : (R : Option ℕ) (s₁ : Pen) (e : ℕ) (s : Pen) → told R s₁ ≡ done e s → s₁.out ≡ s.out
-unfolding told
-told_out (Some m) s₁ e s h = let q : s₁ ≡ s = cc in ap (λ (k : Pen). k.out) q
-told_out None s₁ e s h = never cc
-
-module _ {tx : List ℕ} {D : Got (Tree NameSpan)} {e a : ℕ} (w : Whole tx D e a) where
-  pub whole_stored : (R : Option ℕ) (s s₁ : Pen) → Roomy s → told R s₁ ≡ emission tx D s → s₁.out ≡ sets s.out s.place (print w.tree)
-  unfolding put_bytes
-  whole_stored R s s₁ r h = told_out R s₁ e (put_bytes (print w.tree) s) (h ∙ w.puts s r)
+pub whole_stored : {tx : List ℕ} {D : Got (Tree NameSpan)} {e a : ℕ} (w : Whole tx D e a) (s s₁ : Pen) → Roomy s → s₁ ≡ put_at tx D s → s₁.out ≡ sets s.out s.place (print w.tree)
+unfolding put_bytes
+whole_stored w s s₁ r h = ap (λ (k : Pen). k.out) (h ∙ w.puts s r)

@@ -1,5 +1,5 @@
 -- Whatever is read can be written: a tree that was read from bytes is a descriptor of no more levels than were allowed.
-use mathlib.Core.Bool.{true, ◌||◌}
+use mathlib.Core.Bool.{◌||◌}
 use mathlib.Core.Path.{◌≡◌, refl, ap}
 use mathlib.Core.List.{List}
 use Prim.Native.Nat.{ℕ, suc, ◌-◌, ◌^◌, ◌<◌}
@@ -69,7 +69,7 @@ name_ok s p start n q e =
     let t = text_at s p start n q i in
     (rw (text_length s p start n q i) (get_bound s p n start t.size), t.valid)
 
-label_ok : (s : List ℕ) (p : ℕ) {tag : ℕ} → BranchOk tag → LabelIs s tag (label_at true s tag p)
+label_ok : (s : List ℕ) (p : ℕ) {tag : ℕ} → BranchOk tag → LabelIs s tag (label_at s tag p)
 unfolding label_at
 label_ok s p b = go b (get_name s p) refl
   where
@@ -86,7 +86,7 @@ label_ok s p b = go b (get_name s p) refl
 -- Descriptors
 
 fine_steps : (limit : ℕ) (s : List ℕ)
-    → Steps true limit s (λ depth at tr q. Fine TextOk depth tr) (λ depth tag n p ks e. BranchOk tag → (kid_count ks ≡ n) × FineKids TextOk tag depth ks)
+    → Steps limit s (λ depth at tr q. Fine TextOk depth tr) (λ depth tag n p ks e. BranchOk tag → (kid_count ks ≡ n) × FineKids TextOk tag depth ks)
 unfolding Fine kid_count
 fine_steps limit s =
     record {
@@ -103,7 +103,7 @@ fine_steps limit s =
     }
 
 -- whatever is read is fine
-pub desc_fine : (limit depth : ℕ) (s : List ℕ) (at : ℕ) (tr : Tree (List ℕ)) (q : ℕ) → desc true limit depth s at ≡ Ok (tr, q)
+pub desc_fine : (limit depth : ℕ) (s : List ℕ) (at : ℕ) (tr : Tree (List ℕ)) (q : ℕ) → desc limit depth s at ≡ Ok (tr, q)
     → Fine TextOk depth tr
 desc_fine limit depth s at tr q e =
-    got_as (λ t r. Fine TextOk depth t) (desc true limit depth s at) tr q (desc_as true limit s _ _ (fine_steps limit s) depth at) e
+    got_as (λ t r. Fine TextOk depth t) (desc limit depth s at) tr q (desc_as limit s _ _ (fine_steps limit s) depth at) e

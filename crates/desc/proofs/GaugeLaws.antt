@@ -1,19 +1,15 @@
 -- Steps of a gauge, which stores nothing: how far a number, a tag and a name move its pen.
-use mathlib.Core.Bool.{Bool, true}
 use mathlib.Core.Path.{◌≡◌, sym, ap, ◌∙◌}
 use mathlib.Core.List.{List, []}
-use Prim.Native.Nat.{ℕ, ◌+◌, ◌≤◌, ◌<◌}
+use Prim.Native.Nat.{ℕ, ◌+◌, ◌≤◌}
 use native.Mathlib.Omega.{arith}
 use lib.ListN.{length}
 use Rattle.varint.specs.Leb128.{put_u64}
 use Rattle.varint.specs.Outs.{declared}
 use Rattle.varint.specs.Stores.{part}
-use Rattle.varint.proofs.PutLaws.{put_small}
 use Rattle.varint.proofs.StoreLaws.{sets_out}
 use Rattle.desc.specs.Emitting.{Pen, put_bytes, put_number, put_name}
 use Rattle.desc.specs.Layout.{NameSpan}
-use Rattle.desc.specs.Table.{cell, node_fits}
-use Rattle.desc.proofs.NodeFits.{fits}
 
 module _ (at r : ℕ) where
   past : length {A = ℕ} [] ≤ at
@@ -22,14 +18,6 @@ module _ (at r : ℕ) where
   pub number_gauged : (v n : ℕ) → n ≡ length (put_u64 v) → r ≡ declared (at + n) → ◌≡◌ {A = Pen} (record { out = []; place = r }) (put_number v (record { out = []; place = at }))
   unfolding put_number put_bytes
   number_gauged v n e h = λ i. record { out = sym (sets_out (put_u64 v) [] at past) i; place = (h ∙ ap (λ (k : ℕ). declared (at + k)) e) i }
-
-  -- a tag has one byte
-  pub tag_gauged : (nd : List ℕ) (n parent : ℕ) {t : Bool} → t ≡ node_fits nd n parent → t ≡ true → r ≡ declared (at + 1)
-      → ◌≡◌ {A = Pen} (record { out = []; place = r }) (put_number (cell nd n 0) (record { out = []; place = at }))
-  tag_gauged nd n parent test is h =
-      let k = (fits nd n parent (sym test ∙ is)).known in
-      let s : cell nd n 0 < 128 = omega arith in
-      number_gauged (cell nd n 0) 1 (rw (put_small (cell nd n 0) s)) h
 
   pub name_gauged : (tx : List ℕ) (name : NameSpan) → r ≡ declared (at + name.1) → ◌≡◌ {A = Pen} (record { out = []; place = r }) (put_name tx name (record { out = []; place = at }))
   unfolding put_name

@@ -1,6 +1,6 @@
 -- Where the start of a descriptor ends, and where a child's name lies: inside the bytes, and past the place where reading began.
-use mathlib.Core.Bool.{Bool, true, false, ◌||◌}
-use mathlib.Core.Path.{◌≡◌, refl, sym, ◌∙◌}
+use mathlib.Core.Bool.{◌||◌}
+use mathlib.Core.Path.{◌≡◌}
 use mathlib.Core.List.{List}
 use Prim.Native.Nat.{ℕ, ◌+◌, ◌-◌, ◌≤◌, ◌<◌}
 use native.Mathlib.Omega.{arith}
@@ -9,13 +9,13 @@ use lib.ListN.{length}
 use Rattle.varint.specs.Leb128.{get_u64}
 use Rattle.varint.specs.Texts.{get_name, span}
 use Rattle.varint.proofs.Basics.{pick_both}
-use Rattle.varint.proofs.FormatParts.{text_inside, get_name_lem}
-use Rattle.varint.proofs.TextLaws.{TextEnds, skim_ends}
+use Rattle.varint.proofs.Agains.{name_ends}
+use Rattle.varint.proofs.TextLaws.{TextEnds}
 use Rattle.varint.proofs.ReadLaws.{Ends, get_ends}
 use Rattle.desc.specs.declared.head.Head.{Head}
 use Rattle.desc.specs.declared.head.Head.TheVariants.{Leaf, Branch}
 use Rattle.desc.specs.declared.head.Label.{Label}
-use Rattle.desc.specs.Reading.{fact_on, count_on, head_on, head_at, name_by, discriminant_on, label_on, label_at, named_label}
+use Rattle.desc.specs.Reading.{fact_on, count_on, head_on, head_at, discriminant_on, label_on, label_at, named_label}
 use Rattle.std.specs.Prelude.{Ok, Err}
 use Rattle.varint.specs.Got.{Got}
 use Rattle.varint.specs.declared.text.Span.{Span}
@@ -51,23 +51,15 @@ head_ends s at = on (get_u64 s at) (get_ends s at)
         (pick_both P (ltb 5 tag) tt e))
     on (Err r) e = tt
 
-name_ends : (check : Bool) (s : List ℕ) (at : ℕ) → TextEnds at (length s) (name_by check s at)
-name_ends true s at = on (get_name s at) refl
-  where
-    on : (x : Got Span) → get_name s at ≡ x → TextEnds at (length s) x
-    on (Ok (t, next)) e = text_inside s at t.start t.len next (sym (get_name_lem s at) ∙ e)
-    on (Err r) e = tt
-name_ends false s at = skim_ends s at
-
 discriminant_ends : (t : Span) (x : Got ℕ) (lo p hi : ℕ) → lo < t.start → t.start + t.len ≤ p → Ends p hi x → LabelEnds lo hi (discriminant_on t x)
 discriminant_ends t (Ok (d, next)) lo p hi h k e =
     let e₀ = e.0 in
     pick_both (LabelEnds lo hi) (ltb 0xFFFFFFFF d) tt (h, omega arith, e.1)
 discriminant_ends t (Err r) lo p hi h k e = tt
 
-pub label_ends : (check : Bool) (s : List ℕ) (tag p : ℕ) → LabelEnds p (length s) (label_at check s tag p)
+pub label_ends : (s : List ℕ) (tag p : ℕ) → LabelEnds p (length s) (label_at s tag p)
 unfolding label_at
-label_ends check s tag p = on (name_by check s p) (name_ends check s p)
+label_ends s tag p = on (get_name s p) (name_ends s p)
   where
     on : (x : Got Span) → TextEnds p (length s) x → LabelEnds p (length s) (label_on s tag x)
     on (Ok (t, next)) e =
@@ -85,6 +77,10 @@ leaf_inside s at tag p q e = rw e at (head_ends s at)
 pub branch_inside : (s : List ℕ) (at tag n q : ℕ) → head_at s at ≡ Ok (Branch tag n, q) → (at < q) × (q ≤ length s)
 branch_inside s at tag n q e = rw e at (head_ends s at)
 
-pub label_inside : (check : Bool) (s : List ℕ) (tag p start n d q : ℕ)
-    → label_at check s tag p ≡ Ok (named_label (span start n) d, q) → (p < start) × (start + n ≤ q) × (q ≤ length s)
-label_inside check s tag p start n d q e = rw e at (label_ends check s tag p)
+pub head_inside : (s : List ℕ) (at q : ℕ) (h : Head) → head_at s at ≡ Ok (h, q) → (at < q) × (q ≤ length s)
+head_inside s at q (Leaf tag p) e = leaf_inside s at tag p q e
+head_inside s at q (Branch tag n) e = branch_inside s at tag n q e
+
+pub label_inside : (s : List ℕ) (tag p start n d q : ℕ)
+    → label_at s tag p ≡ Ok (named_label (span start n) d, q) → (p < start) × (start + n ≤ q) × (q ≤ length s)
+label_inside s tag p start n d q e = rw e at (label_ends s tag p)

@@ -4,7 +4,6 @@ pub mod DescFormat
 pub mod DescLines
 pub mod EmitEncode
 pub mod EmitLaws
-pub mod EmitPast
 pub mod EmitPens
 pub mod EmitPrint
 pub mod EmitPut
@@ -12,7 +11,6 @@ pub mod EmitSize
 pub mod EmitSpan
 pub mod EmitWhole
 pub mod Emitteds
-pub mod FillLaws
 pub mod FineRead
 pub mod GatherFine
 pub mod GatherPlaced
@@ -21,14 +19,14 @@ pub mod GotAs
 pub mod HeadLaws
 pub mod KidLaws
 pub mod LayoutLaws
-pub mod MeasureLaws
 pub mod NodeFits
 pub mod NodeRows
 pub mod OnePrint
 pub mod Outcomes
+pub mod ReadAgain
 pub mod ReadInduction
 pub mod ReadPrint
-pub mod SkimLaws
+pub mod Readings
 pub mod TableCells
 pub mod TableKids
 pub mod TableNames

@@ -32,7 +32,7 @@ seven (a ∷ b ∷ c ∷ d ∷ []) h = absurd (omega arith)
 seven (a ∷ b ∷ c ∷ d ∷ e ∷ []) h = absurd (omega arith)
 seven (a ∷ b ∷ c ∷ d ∷ e ∷ f ∷ []) h = absurd (omega arith)
 
-row_is : (nd : List ℕ) (n : ℕ) → n < length nd / 7 → get_or (first_chunks 7 (length nd / 7) nd) n [] ≡ row_at nd n
+pub row_is : (nd : List ℕ) (n : ℕ) → n < length nd / 7 → get_or (first_chunks 7 (length nd / 7) nd) n [] ≡ row_at nd n
 row_is nd n h =
     let long : 7 ≤ length (drop (n * 7) nd) = omega (arith, length-drop (n * 7) nd) in
     let col = λ (c : ℕ). get_or-drop (n * 7) nd c 0 in

@@ -74,7 +74,7 @@ module _ (s : List ℕ) (B : Bytes s) where
   LabelStands tag p (Ok (l, next)) = Stands (print_text (part s l.name.start l.name.len) ++ pick (eqb tag 4) (put_u64 l.discriminant) []) s p next
   LabelStands tag p (Err e) = Unit
 
-  label_stands : (tag p : ℕ) → p ≤ length s → LabelStands tag p (label_at true s tag p)
+  label_stands : (tag p : ℕ) → p ≤ length s → LabelStands tag p (label_at s tag p)
   unfolding label_at
   label_stands tag p h = go (get_name s p) refl
     where
@@ -109,7 +109,7 @@ module _ (s : List ℕ) (B : Bytes s) where
       (joined (put_u64 tag ++ put_u64 (kid_count ks)) (print_kids tag ks) s at next q a b)
 
   stand_steps : (limit : ℕ)
-      → Steps true limit s (λ depth at tr q. at ≤ length s → Stands (print tr) s at q)
+      → Steps limit s (λ depth at tr q. at ≤ length s → Stands (print tr) s at q)
       (λ depth tag n p ks e. p ≤ length s → (kid_count ks ≡ n) × Stands (print_kids tag ks) s p e)
   unfolding kid_count print
   stand_steps limit =
@@ -129,6 +129,6 @@ module _ (s : List ℕ) (B : Bytes s) where
 
 -- what was read stands there as it is printed
 pub print_read : (limit depth : ℕ) (s : List ℕ) (at : ℕ) (tr : Tree (List ℕ)) (q : ℕ) → Bytes s → at ≤ length s
-    → desc true limit depth s at ≡ Ok (tr, q) → Stands (print tr) s at q
+    → desc limit depth s at ≡ Ok (tr, q) → Stands (print tr) s at q
 print_read limit depth s at tr q B l e =
-    got_as (λ t r. at ≤ length s → Stands (print t) s at r) (desc true limit depth s at) tr q (desc_as true limit s _ _ (stand_steps s B limit) depth at) e l
+    got_as (λ t r. at ≤ length s → Stands (print t) s at r) (desc limit depth s at) tr q (desc_as limit s _ _ (stand_steps s B limit) depth at) e l

@@ -1,5 +1,4 @@
 -- What is printed is read back: a descriptor that was written is read as the tree that was written, wherever it stands.
-use mathlib.Core.Bool.{true}
 use mathlib.Core.Path.{◌≡◌, refl, ◌∙◌, ap, subst}
 use mathlib.Core.List.{List, [], ◌++◌, append_assoc, append-nil}
 use Prim.Native.Nat.{ℕ, zero, suc, ◌+◌, ◌-◌, ◌^◌, ◌≤◌, ◌<◌}
@@ -68,7 +67,7 @@ abbrev print_label : ℕ → List ℕ → ℕ → List ℕ
 print_label tag x d = print_text x ++ pick (eqb tag 4) (put_u64 d) []
 
 abbrev labelled : ℕ → List ℕ → ℕ → Got (List ℕ × ℕ)
-labelled tag s p = with_label (label_at true s tag p) (λ start n d q. Ok ((part s start n, d), q))
+labelled tag s p = with_label (label_at s tag p) (λ start n d q. Ok ((part s start n, d), q))
 
 -- what stands before a part is read back
 label_back : {tag d : ℕ} (x : List ℕ) → TextOk x → LabelOk tag d → Reads (labelled tag) (print_label tag x d) (x, d)
@@ -92,15 +91,15 @@ label_back {d = d} x ok (alternative h) before rest =
 
 -- a part more is a label, a descriptor and the other parts
 children_more : (r : ℕ → Got (Tree (List ℕ))) (s : List ℕ) (tag n p : ℕ)
-    → children r true s tag (suc n) p
-    ≡ then (labelled tag s p) (λ c q. then (r q) (λ t e. then (children r true s tag n e) (λ ks f. Ok (more c.0 c.1 t ks, f))))
+    → children r s tag (suc n) p
+    ≡ then (labelled tag s p) (λ c q. then (r q) (λ t e. then (children r s tag n e) (λ ks f. Ok (more c.0 c.1 t ks, f))))
 unfolding children
-children_more r s tag n p = go (label_at true s tag p)
+children_more r s tag n p = go (label_at s tag p)
   where
     go : (l : Got Label)
-        → with_label l (λ start len d q. then (r q) (λ t e. then (children r true s tag n e) (λ ks f. Ok ((more (part s start len) d t ks), f))))
+        → with_label l (λ start len d q. then (r q) (λ t e. then (children r s tag n e) (λ ks f. Ok ((more (part s start len) d t ks), f))))
         ≡ then {A = List ℕ × ℕ} (with_label l (λ start len d q. Ok ((part s start len, d), q)))
-        (λ c q. then (r q) (λ t e. then (children r true s tag n e) (λ ks f. Ok (more c.0 c.1 t ks, f))))
+        (λ c q. then (r q) (λ t e. then (children r s tag n e) (λ ks f. Ok (more c.0 c.1 t ks, f))))
     go (Ok (l, q)) = refl
     go (Err e) = refl
 
@@ -115,7 +114,7 @@ count_small tag (more x d t ks) =
 mutual
   unfolding Fine print desc children kid_count
 
-  tree_back : (tr : Tree (List ℕ)) (limit depth : ℕ) → Fine TextOk depth tr → Reads (desc true limit depth) (print tr) tr
+  tree_back : (tr : Tree (List ℕ)) (limit depth : ℕ) → Fine TextOk depth tr → Reads (desc limit depth) (print tr) tr
   tree_back (leaf tag p) limit zero f before rest = absurd f
   tree_back (leaf tag p) limit (suc depth) f before rest = rw (head_leaf f before rest)
   tree_back (branch tag ks) limit zero f before rest = absurd f
@@ -129,24 +128,24 @@ mutual
       rw (e, h, ← length-append before H, ← append_assoc before H (K ++ rest), k) (ap ((λ z0. Ok (branch tag ks, z0))) (simp length-append (omega arith)))
 
   kids_back : (ks : Kids (List ℕ)) (limit depth tag : ℕ) → FineKids TextOk tag depth ks
-      → Reads (λ s. children (desc true limit depth s) true s tag (kid_count ks)) (print_kids tag ks) ks
+      → Reads (λ s. children (desc limit depth s) s tag (kid_count ks)) (print_kids tag ks) ks
   kids_back none limit depth tag f before rest = ap ((λ z0. Ok (none, z0))) (omega arith)
   kids_back (more x d t ks) limit depth tag f before rest =
-      let others : List ℕ → ℕ → Got (Kids (List ℕ)) = λ s. children (desc true limit depth s) true s tag (kid_count ks) in
+      let others : List ℕ → ℕ → Got (Kids (List ℕ)) = λ s. children (desc limit depth s) s tag (kid_count ks) in
       let k = made_of others (λ l. more x d t l) (print_kids tag ks) ks (λ b r. kids_back ks limit depth tag f.3 b r) in
       let m =
-      in_a_row (desc true limit depth) (λ u s e. then (others s e) (λ l g. Ok (more x d u l, g))) (print t) (print_kids tag ks) t (more x d t ks)
+      in_a_row (desc limit depth) (λ u s e. then (others s e) (λ l g. Ok (more x d u l, g))) (print t) (print_kids tag ks) t (more x d t ks)
       (λ b r. tree_back t limit depth f.2 b r) k in
       let w =
-      in_a_row (labelled tag) (λ c s q. then (desc true limit depth s q) (λ u e. then (others s e) (λ l g. Ok (more c.0 c.1 u l, g))))
+      in_a_row (labelled tag) (λ c s q. then (desc limit depth s q) (λ u e. then (others s e) (λ l g. Ok (more c.0 c.1 u l, g))))
       (print_label tag x d) (print t ++ print_kids tag ks) (x, d) (more x d t ks) (label_back x f.0 f.1) m before rest in
       let e : print_label tag x d ++ (print t ++ print_kids tag ks) ≡ print_kids tag (more x d t ks) =
       append_assoc (print_text x) (pick (eqb tag 4) (put_u64 d) []) (print t ++ print_kids tag ks) in
       subst
-      (λ (P : List ℕ). children (desc true limit depth (before ++ (P ++ rest))) true (before ++ (P ++ rest)) tag (suc (kid_count ks)) (length before) ≡ Ok (more x d t ks, length before + length P))
-      e (children_more (desc true limit depth _) _ tag (kid_count ks) (length before) ∙ w)
+      (λ (P : List ℕ). children (desc limit depth (before ++ (P ++ rest))) (before ++ (P ++ rest)) tag (suc (kid_count ks)) (length before) ≡ Ok (more x d t ks, length before + length P))
+      e (children_more (desc limit depth _) _ tag (kid_count ks) (length before) ∙ w)
 
 -- reading what was printed gives the tree back
 pub read_print : (limit depth : ℕ) (tr : Tree (List ℕ)) → Fine TextOk depth tr → (before rest : List ℕ)
-    → desc true limit depth (before ++ (print tr ++ rest)) (length before) ≡ Ok (tr, (length before + length (print tr)))
+    → desc limit depth (before ++ (print tr ++ rest)) (length before) ≡ Ok (tr, (length before + length (print tr)))
 read_print limit depth tr = tree_back tr limit depth

@@ -1,19 +1,20 @@
 -- Decoding what was encoded, and encoding what was decoded: each undoes the other.
-use mathlib.Core.Bool.{true}
 use mathlib.Core.Path.{◌≡◌, refl, sym, ◌∙◌, ap}
 use mathlib.Core.List.{List, [], ◌++◌, append-nil}
 use Prim.Native.Nat.{ℕ, ◌-◌, ◌*◌, ◌≤◌}
 use native.Mathlib.Nat.{zero-add}
+use native.Mathlib.Omega.{arith}
 use lib.ListN.{length, replicate}
 use borrow.Author.Tests.{le-ltb}
 use Rattle.varint.specs.Got.{got}
 use Rattle.varint.specs.Gathering.{held}
-use Rattle.varint.specs.Outs.{send}
+use Rattle.varint.specs.Lent.{fitted, settled}
+use Rattle.varint.specs.Outs.{send, sent}
 use Rattle.varint.specs.RoundTrips.{TextOk}
 use Rattle.varint.specs.Stores.{filled}
 use Rattle.varint.proofs.StoreLaws.{filled_fits}
 use Rattle.desc.specs.Decoding.{settled_desc, decode_desc}
-use Rattle.desc.specs.Encoding.{held_in, sent_desc, encode_desc}
+use Rattle.desc.specs.Encoding.{held_in, encode_desc}
 use Rattle.desc.specs.Layout.{width, texts, placed, nodes_of}
 use Rattle.desc.specs.Printing.{print}
 use Rattle.desc.specs.Reading.{desc}
@@ -40,7 +41,7 @@ module _ (limit : ℕ) (tr : Tree (List ℕ)) (f : Fine TextOk limit tr) where
       → decode_desc max limit (print tr ++ rest) tx rs nd ≡ settled_desc (Ok (tr, (length (print tr)))) tx rs nd
   unfolding decode_desc
   decode_print max rest tx rs nd h =
-      let e : desc true limit limit (print tr ++ rest) 0 ≡ Ok (tr, (length (print tr))) =
+      let e : desc limit limit (print tr ++ rest) 0 ≡ Ok (tr, (length (print tr))) =
       read_print limit limit tr f [] rest ∙ ap (got tr) (zero-add (length (print tr))) in
       rw (le-ltb max (length (print tr ++ rest)) h, e)
 
@@ -55,10 +56,11 @@ module _ (limit : ℕ) (tr : Tree (List ℕ)) (f : Fine TextOk limit tr) where
   pub decode_encoded : (max : ℕ) (tx rs nd : List ℕ) → length (print tr) ≤ max → length (texts tr) ≤ length tx → size tr * width ≤ length nd
       → decode_desc max limit (print tr) tx rs nd
       ≡ record { answer = Ok (length (print tr)); text = filled tx (texts tr); rows = filled rs []; nodes = filled nd (layout tr) }
-  unfolding settled_desc
+  unfolding settled fitted
   decode_encoded max tx rs nd h t n =
+      let k : length (layout tr) ≤ length nd = rw (length_layout tr) n in
       decode_whole max tx rs nd h
-      ∙ rw (le-ltb (length tx) (length (texts tr)) t, le-ltb (length nd) (size tr * width) n) refl
+      ∙ rw (le-ltb (length tx) (length (texts tr)) t, le-ltb (length rs) 0 (omega arith), le-ltb (length nd) (length (layout tr)) k) refl
 
   -- what the buffers hold after it was decoded
   pub held_decoded : (tx nd : List ℕ) → length (texts tr) ≤ length tx → size tr * width ≤ length nd
@@ -74,5 +76,5 @@ module _ (limit : ℕ) (tr : Tree (List ℕ)) (f : Fine TextOk limit tr) where
   -- and it is encoded to its bytes again
   pub encode_laid : (max : ℕ) (tx nd out : List ℕ) → length (texts tr) ≤ length tx → size tr * width ≤ length nd
       → encode_desc max limit (filled tx (texts tr)) (filled nd (layout tr)) out ≡ send max (print tr) out
-  unfolding encode_desc sent_desc
+  unfolding encode_desc sent
   encode_laid max tx nd out t n = rw (held_decoded tx nd t n)

@@ -1,5 +1,5 @@
--- Writing a node table as bytes from a place of a buffer on, its size, and its names: what a writer of messages that hold descriptors calls.
-use Rattle.std.specs.Prelude.{Bool, ◌≡◌, refl, List, [], ◌∷◌, ℕ, zero, suc, ◌+◌, eqb, length, Ok, Err, Result, Some, None, Option}
+-- Numbers and names written from a place of a buffer on, the size of a node table as bytes, and its names: what a writer of messages calls.
+use Rattle.std.specs.Prelude.{◌≡◌, refl, List, [], ◌∷◌, ℕ, zero, suc, ◌+◌, eqb, length, Ok, Err, Result, Some, None, Option}
 use Rattle.std.proofs.lemmas.List.Edits.{sets}
 use Rattle.varint.specs.Choice.{pick}
 use Rattle.varint.specs.Got.{Got}
@@ -25,39 +25,13 @@ put_bytes x s = record { out = sets s.out s.place x; place = declared (s.place +
 unfoldable pub put_number : ℕ → Pen → Pen
 put_number v s = put_bytes (put_u64 v) s
 
--- a number that only some have
-unfoldable pub put_where : Bool → ℕ → Pen → Pen
-put_where wanted v s = pick wanted (put_number v s) s
-
 -- The bytes of a name as far as the text has them; the place moves on by the length that the table says.
 unfoldable pub put_name : List ℕ → NameSpan → Pen → Pen
 put_name tx name s = record { out = sets s.out s.place (part tx name.0 name.1); place = declared (s.place + name.1) }
 
--- what stands before a child of a type with this tag
-unfoldable pub put_label : List ℕ → ℕ → NameSpan → ℕ → Pen → Pen
-put_label tx tag name d s = put_where (eqb tag 4) d (put_name tx name (put_number name.1 s))
-
-unfoldable mutual
-  pub put_tree : List ℕ → Tree NameSpan → Pen → Pen
-  put_tree tx (leaf tag p) s = put_where (eqb tag 2) p (put_number tag s)
-  put_tree tx (branch tag ks) s = put_kids tx tag ks (put_number (kid_count ks) (put_number tag s))
-
-  pub put_kids : List ℕ → ℕ → Kids NameSpan → Pen → Pen
-  put_kids tx tag none s = s
-  put_kids tx tag (more name d t ks) s = put_kids tx tag ks (put_tree tx t (put_label tx tag name d s))
-
 -- the node after the last one written, and the place after the last byte
 abbrev pub emitted_to : ℕ → ℕ → Emitted
 emitted_to next place = record { next = next; place = place }
-
--- A writer that tests the table first, and writes nothing of one that is not laid out as one.
-pub record Put : Type 0 where
-  pub answer : Option Emitted
-  pub out : List ℕ
-
-unfoldable pub put_desc : List ℕ → Got (Tree NameSpan) → Pen → Put
-put_desc tx (Ok (tr, next)) s = record { answer = Some (emitted_to next (put_tree tx tr s).place); out = (put_tree tx tr s).out }
-put_desc tx (Err e) s = record { answer = None; out = s.out }
 
 -- How many bytes a tree takes by the lengths that the table says
 
@@ -76,6 +50,11 @@ unfoldable pub sized : Got (Tree NameSpan) → Option Emitted
 sized (Ok (tr, next)) = Some (emitted_to next (declared (span_size tr)))
 sized (Err e) = None
 
+-- a record with one field "a", an int, takes five bytes
+example_sized : sized (table 2 (3 ∷ 0 ∷ 0 ∷ 0 ∷ 0 ∷ 1 ∷ 2 ∷ 0 ∷ 0 ∷ 1 ∷ 0 ∷ 0 ∷ 0 ∷ 2 ∷ []) 0 0) ≡ Some (emitted_to 2 5)
+unfolding sized span_size table node_fits root_name discriminant_fits predicate_fits is_branch leaf_fits kids_at kid_count put_u64 put_by
+example_sized = refl
+
 -- Names in the order of their nodes
 
 unfoldable pub verdict : {A : Type 0} → Held A → Result (Unit {0}) Refusal
@@ -90,14 +69,3 @@ then_names (Err e) next = Err e
 unfoldable pub names_from : List ℕ → List ℕ → ℕ → ℕ → Result (Unit {0}) Refusal
 names_from tx nd m zero = Ok tt
 names_from tx nd m (suc k) = then_names (verdict (name_held tx (cell nd m start_at) (cell nd m len_at))) (names_from tx nd (m + 1) k)
-
--- a record with one field "a", an int, into a buffer that is two bytes short of it
-example_put : put_desc (0x61 ∷ []) (table 2 (3 ∷ 0 ∷ 0 ∷ 0 ∷ 0 ∷ 1 ∷ 2 ∷ 0 ∷ 0 ∷ 1 ∷ 0 ∷ 0 ∷ 0 ∷ 2 ∷ []) 0 0) (record { out = 9 ∷ 9 ∷ 9 ∷ 9 ∷ []; place = 1 })
-    ≡ record { answer = Some (emitted_to 2 6); out = 9 ∷ 3 ∷ 1 ∷ 1 ∷ [] }
-unfolding put_desc table node_fits root_name discriminant_fits predicate_fits is_branch leaf_fits kids_at put_tree kid_count put_label put_name put_where put_number put_bytes put_u64 put_by part
-example_put = refl
-
--- it takes five bytes
-example_sized : sized (table 2 (3 ∷ 0 ∷ 0 ∷ 0 ∷ 0 ∷ 1 ∷ 2 ∷ 0 ∷ 0 ∷ 1 ∷ 0 ∷ 0 ∷ 0 ∷ 2 ∷ []) 0 0) ≡ Some (emitted_to 2 5)
-unfolding sized span_size table node_fits root_name discriminant_fits predicate_fits is_branch leaf_fits kids_at kid_count put_u64 put_by
-example_sized = refl

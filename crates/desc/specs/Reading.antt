@@ -1,6 +1,6 @@
 -- Reading a descriptor at a place: "Record: count, then name and descriptor for each; union: count, then name, discriminant, descriptor.
 -- Descriptors nest, the top at depth 1; entering depth 65 is 15, before its tag."
-use Rattle.std.specs.Prelude.{Bool, true, false, ◌||◌, ◌≡◌, refl, List, [], ◌∷◌, ℕ, zero, suc, ◌-◌, ltb, eqb, length, Ok, Err}
+use Rattle.std.specs.Prelude.{◌||◌, ◌≡◌, refl, List, [], ◌∷◌, ℕ, zero, suc, ◌-◌, ltb, eqb, length, Ok, Err}
 use Rattle.varint.specs.Choice.{pick}
 use Rattle.varint.specs.Got.{Got, then}
 use Rattle.varint.specs.Leb128.{read_from, get_u64}
@@ -36,11 +36,6 @@ head_on s at (Err r) = Err r
 unfoldable pub head_at : List ℕ → ℕ → Got Head
 head_at s at = head_on s at (get_u64 s at)
 
--- A name, checked; or not, where it was before.
-abbrev pub name_by : Bool → List ℕ → ℕ → Got Span
-name_by true s at = get_name s at
-name_by false s at = skim_text s at
-
 -- a child's name and its discriminant
 abbrev pub named_label : Span → ℕ → Label
 named_label name d = record { name = name; discriminant = d }
@@ -55,44 +50,44 @@ label_on s tag (Ok (name, next)) = pick (eqb tag 4) (discriminant_on name (get_u
 label_on s tag (Err r) = Err r
 
 -- what stands before a child of a type with this tag
-unfoldable pub label_at : Bool → List ℕ → ℕ → ℕ → Got Label
-label_at check s tag p = label_on s tag (name_by check s p)
+unfoldable pub label_at : List ℕ → ℕ → ℕ → Got Label
+label_at s tag p = label_on s tag (get_name s p)
 
 abbrev pub with_label : {A : Type 0} → Got Label → (ℕ → ℕ → ℕ → ℕ → Got A) → Got A
 with_label (Ok (l, next)) k = k l.name.start l.name.len l.discriminant next
 with_label (Err r) k = Err r
 
 -- n children from place p on, where `r` reads a descriptor at a place
-unfoldable pub children : (ℕ → Got (Tree (List ℕ))) → Bool → List ℕ → ℕ → ℕ → ℕ → Got (Kids (List ℕ))
-children r check s tag zero p = Ok (none, p)
-children r check s tag (suc n) p =
-    with_label (label_at check s tag p)
-    (λ start len d q. then (r q) (λ t e. then (children r check s tag n e) (λ ks f. Ok (more (part s start len) d t ks, f))))
+unfoldable pub children : (ℕ → Got (Tree (List ℕ))) → List ℕ → ℕ → ℕ → ℕ → Got (Kids (List ℕ))
+children r s tag zero p = Ok (none, p)
+children r s tag (suc n) p =
+    with_label (label_at s tag p)
+    (λ start len d q. then (r q) (λ t e. then (children r s tag n e) (λ ks f. Ok (more (part s start len) d t ks, f))))
 
-abbrev pub desc_on : (ℕ → Got (Tree (List ℕ))) → Bool → List ℕ → Got Head → Got (Tree (List ℕ))
-desc_on r check s (Ok (Leaf tag p, next)) = Ok (leaf tag p, next)
-desc_on r check s (Ok (Branch tag n, next)) = then (children r check s tag n next) (λ ks e. Ok (branch tag ks, e))
-desc_on r check s (Err e) = Err e
+abbrev pub desc_on : (ℕ → Got (Tree (List ℕ))) → List ℕ → Got Head → Got (Tree (List ℕ))
+desc_on r s (Ok (Leaf tag p, next)) = Ok (leaf tag p, next)
+desc_on r s (Ok (Branch tag n, next)) = then (children r s tag n next) (λ ks e. Ok (branch tag ks, e))
+desc_on r s (Err e) = Err e
 
 -- The descriptor at place `at` of s, where `depth` more levels may nest of `limit` in all.
-unfoldable pub desc : Bool → ℕ → ℕ → List ℕ → ℕ → Got (Tree (List ℕ))
-desc check limit zero s at = Err (TooDeep limit)
-desc check limit (suc depth) s at = desc_on (desc check limit depth s) check s (head_at s at)
+unfoldable pub desc : ℕ → ℕ → List ℕ → ℕ → Got (Tree (List ℕ))
+desc limit zero s at = Err (TooDeep limit)
+desc limit (suc depth) s at = desc_on (desc limit depth s) s (head_at s at)
 
-example_record : desc true 64 64 (0x03 ∷ 0x02 ∷ 0x01 ∷ 0x61 ∷ 0x00 ∷ 0x02 ∷ 0x62 ∷ 0x63 ∷ 0x02 ∷ 0x07 ∷ 0xFF ∷ []) 0 ≡ Ok (sample, 10)
+example_record : desc 64 64 (0x03 ∷ 0x02 ∷ 0x01 ∷ 0x61 ∷ 0x00 ∷ 0x02 ∷ 0x62 ∷ 0x63 ∷ 0x02 ∷ 0x07 ∷ 0xFF ∷ []) 0 ≡ Ok (sample, 10)
 unfolding desc children head_at label_at get_u64 read_from get_name get_text skim_text utf8 scan lead part
 example_record = refl
 
-example_union : desc true 64 64 (0x04 ∷ 0x01 ∷ 0x01 ∷ 0x78 ∷ 0x09 ∷ 0x05 ∷ []) 0 ≡ Ok (sample_union, 6)
+example_union : desc 64 64 (0x04 ∷ 0x01 ∷ 0x01 ∷ 0x78 ∷ 0x09 ∷ 0x05 ∷ []) 0 ≡ Ok (sample_union, 6)
 unfolding desc children head_at label_at get_u64 read_from get_name get_text skim_text utf8 scan lead part
 example_union = refl
 
 -- a record in a record where one level may nest: refused before the inner tag is read
-example_deep : desc true 1 1 (0x03 ∷ 0x01 ∷ 0x00 ∷ []) 0 ≡ Err (TooDeep 1)
+example_deep : desc 1 1 (0x03 ∷ 0x01 ∷ 0x00 ∷ []) 0 ≡ Err (TooDeep 1)
 unfolding desc children head_at label_at get_u64 read_from get_name get_text skim_text utf8 scan lead part
 example_deep = refl
 
 -- a predicate of 33 bits
-example_wide : desc true 64 64 (0x02 ∷ 0x80 ∷ 0x80 ∷ 0x80 ∷ 0x80 ∷ 0x10 ∷ []) 0 ≡ Err UnknownPredicate
+example_wide : desc 64 64 (0x02 ∷ 0x80 ∷ 0x80 ∷ 0x80 ∷ 0x80 ∷ 0x10 ∷ []) 0 ≡ Err UnknownPredicate
 unfolding desc head_at get_u64 read_from
 example_wide = refl

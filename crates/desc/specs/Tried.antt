@@ -1,5 +1,5 @@
 -- "Bytes to try": the lines about descriptors, behind those of the layer below.
-use Rattle.std.specs.Prelude.{true, List, [], ◌∷◌, ◌++◌, ℕ, Ok, Err}
+use Rattle.std.specs.Prelude.{List, [], ◌∷◌, ◌++◌, ℕ, Ok, Err}
 use Rattle.varint.specs.Got.{Got}
 use Rattle.varint.specs.Tried.{Line, refused_in, varint_lines}
 use Rattle.desc.specs.Layout.{placed, nodes_of}
@@ -12,7 +12,7 @@ desc_in (Ok (tr, next)) = 0 ∷ next ∷ nodes_of (placed tr 0) 0 (0, 0) 0
 desc_in (Err r) = refused_in r
 
 abbrev pub desc_line : List ℕ → List ℕ → Line
-desc_line bytes answer = record { reader = λ s. desc_in (desc true 64 64 s 0); bytes = bytes; answer = answer }
+desc_line bytes answer = record { reader = λ s. desc_in (desc 64 64 s 0); bytes = bytes; answer = answer }
 
 unfoldable pub own_lines : List Line
 own_lines =

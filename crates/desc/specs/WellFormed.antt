@@ -1,5 +1,5 @@
 -- Which trees are descriptors: those that can be written and read back.
-use Rattle.std.specs.Prelude.{true, List, ℕ, zero, suc, ◌^◌, ◌<◌}
+use Rattle.std.specs.Prelude.{List, ℕ, zero, suc, ◌^◌, ◌<◌}
 use Rattle.std.proofs.Common.{lit<}
 use Rattle.varint.specs.Formats.{Format}
 use Rattle.desc.specs.Printing.{print}
@@ -46,4 +46,4 @@ example_fine = (union_type, lit< tt, (tt, alternative (lit< tt), int, (tt, alter
 
 -- A descriptor as a format, so that a message may hold one.
 abbrev pub descriptor : ℕ → Format (Tree (List ℕ))
-descriptor limit = record { read = desc true limit limit; print = print }
+descriptor limit = record { read = desc limit limit; print = print }

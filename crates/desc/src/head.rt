@@ -3,10 +3,12 @@
 // `&s[at..]` each caller would owe that it does not.
 ghost use Rattle.std.specs.Prelude.{◌≡◌, ◌≤◌, length};
 ghost use Rattle.varint.specs.Leb128.{get_u64};
-ghost use Rattle.desc.specs.Reading.{fact_on, count_on, head_at, name_by, discriminant_on, label_at};
+ghost use Rattle.varint.specs.Inner.Again.{Again};
+ghost use Rattle.desc.specs.Reading.{fact_on, count_on, head_at, discriminant_on, label_at};
 
 use varint::error::Refusal;
-use varint::text::{Span, skim_str, take_name};
+use varint::inner::find_name;
+use varint::text::{Span, take_name};
 use varint::{Got, MAX_U32, get_u64};
 
 // Tags of descriptors (desc.rs): those whose start has more than the tag, and the last of all. They are numbers and no enum: the node table, which is
@@ -81,18 +83,6 @@ pub(crate) fn read_head(s: &[u8], at: usize) -> Got<Head>
     }
 }
 
-// A name, its bytes checked or not.
-#[inline(always)]
-fn read_name(s: &[u8], at: usize, check: bool) -> Got<Span>
-    ensures { result ≡ name_by check s.now at }
-{
-    if check {
-        take_name(s, at)
-    } else {
-        skim_str(s, at)
-    }
-}
-
 // An alternative's discriminant has 32 bits.
 #[inline(always)]
 fn read_discriminant(s: &[u8], name: Span, p: usize) -> Got<Label>
@@ -107,11 +97,16 @@ fn read_discriminant(s: &[u8], name: Span, p: usize) -> Got<Label>
 
 // What stands before a child of a record or a union: its name, and in a union its discriminant.
 #[inline(always)]
-#[tactic(auto, unfolding(crate::specs::Reading::label_at))]
+#[tactic(auto, using(crate::proofs::ReadAgain::label_name), unfolding(crate::specs::Reading::label_at))]
 pub(crate) fn read_label(s: &[u8], tag: u64, p: usize, check: bool) -> Got<Label>
-    ensures { result ≡ label_at check s.now tag p }
+    requires { Again check (label_at s.now tag p) }
+    ensures { result ≡ label_at s.now tag p }
 {
-    let (name, next) = read_name(s, p, check)?;
+    let (name, next) = if check {
+        take_name(s, p)?
+    } else {
+        find_name(s, p)?
+    };
     if tag == TAG_UNION {
         return read_discriminant(s, name, next);
     }

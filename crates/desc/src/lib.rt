@@ -1,8 +1,7 @@
 // Type descriptors (desc.rs) and the node table that they are laid out as in lent memory.
 //
 // A descriptor is read twice: once to see whether it is one and how much memory it takes, and once to store it. The first reading checks
-// its names, the second only finds them. Both are one function, which is lent two empty buffers the first time. Whoever reads one within other bytes has it
-// measured (`measure_desc`), and then measured and stored (`fill_desc`).
+// its names, the second only finds them. Both are one function, which is lent two empty buffers the first time.
 //
 // Bytes, text and nodes have a place beside them, and are not lent from that place on: the place is the answer's too, and one in text or nodes goes on past
 // the end, where nothing is stored; of `&s[at..]` each caller would owe that the place is inside. Public functions are lent text, rows and nodes one by one, as C
@@ -10,16 +9,20 @@
 #![tactic(auto)]
 
 mod head;
+pub mod inner;
 pub mod node;
 pub mod write;
 
-ghost use Rattle.std.specs.Prelude.{◌≡◌, true, false, ◌+◌, ◌≤◌, length};
-ghost use Rattle.desc.specs.Decoding.{measured, fill_desc, decode_desc};
-ghost use Rattle.desc.specs.Reading.{desc};
-ghost use Rattle.desc.specs.Inner.Walking.{Keeps, reached, outcome, Agrees};
+ghost use Rattle.std.specs.Prelude.{◌≡◌, ◌+◌, ◌≤◌, length};
+ghost use Rattle.varint.specs.Inner.Again.{Again};
+ghost use Rattle.desc.specs.Decoding.{decode_desc};
+ghost use Rattle.desc.specs.Reading.{label_at, children, desc};
+ghost use Rattle.desc.specs.Inner.Walking.{Keeps, Labels, reached, outcome, outcome_kids, Agrees};
 
 use head::{Head, Label, read_head, read_label};
+use inner::read_desc;
 use node::{WIDTH, store_node};
+use varint::Got;
 use varint::error::{Buffer, Refusal};
 use varint::store::{copy_bytes, fill_from};
 use varint::text::Span;
@@ -61,7 +64,27 @@ struct Memory<'a> {
 }
 
 impl Memory<'_> {
-    // Reads the descriptor at place `at`, where `depth` more levels may nest, as the next node with this label, and returns the place past it.
+    // What stands before a child of a type with this tag: its name is stored, and its label is that of the table.
+    #[inline(always)]
+    fn label(&mut self, source: &Source<'_>, tag: u64, at: usize) -> Got<Label>
+        requires again { Again source.now.check (label_at source.now.s.now tag at) }
+        requires before { self.old.t ≤ at }
+        ensures kept { Keeps self.old self.new }
+        ensures read { Labels source.now.s.now (label_at source.now.s.now tag at) self.old self.new result }
+    {
+        let (found, next) = read_label(source.s, tag, at, source.check)?;
+        let len = found.name.len;
+        copy_bytes(source.s, found.name.start, len, self.text, self.t);
+        let name = Span { start: self.t, len };
+        self.t += len;
+        let discriminant = found.discriminant;
+        Ok((Label { name, discriminant }, next))
+    }
+
+    // Reads the descriptor at place `at`, where `depth` more levels may nest, as the next node with this label, and returns the place past it. It is inlined in
+    // the loop over children, so that only a type with parts takes a call.
+    #[cycle(walk)]
+    #[inline(always)]
     fn walk(
         &mut self,
         source: &Source<'_>,
@@ -69,9 +92,10 @@ impl Memory<'_> {
         depth: u64,
         label: Label,
     ) -> Result<usize, Refusal>
-        requires { self.old.t + self.old.n ≤ at }
+        requires before { self.old.t + self.old.n ≤ at }
+        requires again { Again source.now.check (desc source.now.limit depth source.now.s.now at) }
         ensures kept { Keeps self.old self.new }
-        ensures read { Agrees (outcome (desc source.now.check source.now.limit depth source.now.s.now at) self.old.text.now self.old.t self.old.nodes.now self.old.n (label.name.start, label.name.len) label.discriminant) (length source.now.s.now) (reached result self.new) self.new.text.now self.new.nodes.now }
+        ensures read { Agrees (outcome (desc source.now.limit depth source.now.s.now at) self.old.text.now self.old.t self.old.nodes.now self.old.n (label.name.start, label.name.len) label.discriminant) (length source.now.s.now) (reached result self.new) self.new.text.now self.new.nodes.now }
     {
         let too_deep = depth == 0;
         if too_deep {
@@ -79,85 +103,58 @@ impl Memory<'_> {
         }
         let (head, next) = read_head(source.s, at)?;
         let n = self.n;
+        self.n = n + 1;
         match head {
             Head::Leaf { tag, predicate } => {
                 store_node(self.nodes, n, tag, label, predicate, 0, n + 1);
-                self.n = n + 1;
                 Ok(next)
             }
             Head::Branch { tag, count } => {
-                self.n = n + 1;
-                let mut past = next;
-                for _ in 0..count {
-                    let (found, body) = read_label(source.s, tag, past, source.check)?;
-                    let from = found.name;
-                    copy_bytes(source.s, from.start, from.len, self.text, self.t);
-                    let child = Label {
-                        name: Span {
-                            start: self.t,
-                            len: from.len,
-                        },
-                        discriminant: found.discriminant,
-                    };
-                    self.t += from.len;
-                    past = self.walk(source, body, depth - 1, child)?;
-                }
+                let past = self.walk_kids(source, tag, count, next, depth - 1)?;
                 store_node(self.nodes, n, tag, label, 0, count, self.n);
                 Ok(past)
             }
         }
     }
-}
 
-impl Source<'_> {
-    // What is stored of the descriptor at place `at`, told and not stored.
-    fn measure(&self, at: usize) -> Result<Walked, Refusal>
-        ensures { result ≡ measured (desc self.now.check self.now.limit self.now.limit self.now.s.now at) }
+    // Reads so many children of a type with this tag, the first of which stands at place `at`, and returns the place past them.
+    #[cycle(walk)]
+    fn walk_kids(
+        &mut self,
+        source: &Source<'_>,
+        tag: u64,
+        count: u64,
+        at: usize,
+        depth: u64,
+    ) -> Result<usize, Refusal>
+        requires before { self.old.t + self.old.n ≤ at }
+        requires inside { at ≤ length source.now.s.now }
+        requires again { Again source.now.check (children (desc source.now.limit depth source.now.s.now) source.now.s.now tag count at) }
+        ensures kept { Keeps self.old self.new }
+        ensures read { Agrees (outcome_kids (children (desc source.now.limit depth source.now.s.now) source.now.s.now tag count at) self.old.text.now self.old.t self.old.nodes.now self.old.n) (length source.now.s.now) (reached result self.new) self.new.text.now self.new.nodes.now }
     {
-        let mut memory = Memory {
-            text: &mut [],
-            t: 0,
-            nodes: &mut [],
-            n: 0,
-        };
-        let next = memory.walk(self, at, self.limit, ROOT)?;
+        let mut past = at;
+        for _ in 0..count {
+            let (child, body) = self.label(source, tag, past)?;
+            past = self.walk(source, body, depth, child)?;
+        }
+        Ok(past)
+    }
+
+    // Reads the descriptor at place `at` as a root, with all levels left, and tells the places past it.
+    fn root(&mut self, source: &Source<'_>, at: usize) -> Result<Walked, Refusal>
+        requires before { self.old.t + self.old.n ≤ at }
+        requires again { Again source.now.check (desc source.now.limit source.now.limit source.now.s.now at) }
+        ensures kept { Keeps self.old self.new }
+        ensures read { Agrees (outcome (desc source.now.limit source.now.limit source.now.s.now at) self.old.text.now self.old.t self.old.nodes.now self.old.n (0, 0) 0) (length source.now.s.now) result self.new.text.now self.new.nodes.now }
+    {
+        let next = self.walk(source, at, source.limit, ROOT)?;
         Ok(Walked {
             next,
-            text: memory.t,
-            nodes: memory.n,
+            text: self.t,
+            nodes: self.n,
         })
     }
-}
-
-// Where the descriptor at place `at` ends, and how much text and how many nodes it has: for whoever reads one within other bytes.
-pub fn measure_desc(s: &[u8], at: usize, limit: u64) -> Result<Walked, Refusal>
-    ensures { result ≡ measured (desc true limit limit s.now at) }
-{
-    let check = true;
-    Source { s, limit, check }.measure(at)
-}
-
-// Stores the descriptor at place `at`, which was measured before: its texts from place t of text on, its nodes from node n on. It is measured again on
-// the way, its names only found, and the answer is that of `measure_desc`.
-pub fn fill_desc(
-    s: &[u8],
-    at: usize,
-    limit: u64,
-    text: &mut [u8],
-    t: usize,
-    nodes: &mut [u64],
-    n: usize,
-) -> Result<Walked, Refusal>
-    ensures { (result ≡ measured (desc false limit limit s.now at)) × (record { text = text.new; nodes = nodes.new } ≡ fill_desc limit s.now at text.old t nodes.old n) }
-{
-    let check = false;
-    let source = Source { s, limit, check };
-    let measured = source.measure(at)?;
-    if t <= at && n <= at - t {
-        let mut memory = Memory { text, t, nodes, n };
-        let _ = memory.walk(&source, at, limit, ROOT);
-    }
-    Ok(measured)
 }
 
 // The descriptor at the start of a payload: its texts in text, its nodes in nodes, and zeros behind them; rows are cleared too.
@@ -173,7 +170,7 @@ pub fn decode_desc(
     if MAX_PAYLOAD < length {
         return Err(Refusal::too_large(length, MAX_PAYLOAD));
     }
-    let measured = measure_desc(payload, 0, MAX_DEPTH)?;
+    let measured = read_desc(payload, 0, MAX_DEPTH, true, &mut [], 0, &mut [], 0)?;
     if text.len() < measured.text {
         return Err(Refusal::too_small(Buffer::Text, measured.text));
     }
@@ -181,20 +178,9 @@ pub fn decode_desc(
     if nodes.len() < numbers {
         return Err(Refusal::too_small(Buffer::Nodes, numbers));
     }
-    let mut memory = Memory {
-        text,
-        t: 0,
-        nodes,
-        n: 0,
-    };
-    let source = Source {
-        s: payload,
-        limit: MAX_DEPTH,
-        check: false,
-    };
-    let _ = memory.walk(&source, 0, MAX_DEPTH, ROOT);
-    fill_from(memory.text, measured.text, 0);
+    let _ = read_desc(payload, 0, MAX_DEPTH, false, text, 0, nodes, 0);
+    fill_from(text, measured.text, 0);
     fill_from(rows, 0, 0);
-    fill_from(memory.nodes, numbers, 0);
+    fill_from(nodes, numbers, 0);
     Ok(measured.next)
 }

@@ -67,3 +67,12 @@ pub(crate) fn row(nodes: &[u64], n: usize) -> Option<&[u64; WIDTH]>
 {
     nodes.as_chunks::<WIDTH>().0.get(n)
 }
+
+// The numbers of node `n`, which is there whole.
+#[inline(always)]
+pub(crate) fn whole_row(nodes: &[u64], n: usize) -> &[u64; WIDTH]
+    requires { n < length nodes.now / width }
+    ensures { result.now ≡ row_at nodes.now n }
+{
+    &nodes.as_chunks::<WIDTH>().0[n]
+}

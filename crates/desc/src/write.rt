@@ -1,18 +1,20 @@
 // Writing descriptors: a node table and its texts back to bytes. Public functions take text and nodes apart: their callers hold them in structs of their own.
 // Whoever writes within other bytes lends a buffer with a place beside it, and not the rest of the buffer: past the end nothing is stored, and the place
 // goes on, which tells how long the whole would be.
-ghost use Rattle.std.specs.Prelude.{ℕ, [], true, false, ◌&&◌, ◌||◌, ◌≡◌, ◌+◌, ◌-◌, ◌/◌, ◌≤◌, ◌<◌, leb, eqb, length, MatchOption};
+ghost use Rattle.std.specs.Prelude.{Bool, ℕ, [], true, false, ◌&&◌, ◌||◌, ◌≡◌, ◌+◌, ◌-◌, ◌/◌, ◌≤◌, ◌<◌, leb, eqb, length, MatchOption};
 ghost use Rattle.varint.specs.Choice.{pick};
 ghost use Rattle.varint.specs.Gathering.{name_held};
+ghost use Rattle.varint.specs.Inner.Again.{Again};
 ghost use Rattle.desc.specs.Layout.{width, start_at, len_at, discriminant_at};
-ghost use Rattle.desc.specs.Table.{cell, node_fits, table};
-ghost use Rattle.desc.specs.Emitting.{Pen, put_number, put_name, sized, put_desc, verdict, names_from};
-ghost use Rattle.desc.specs.Inner.Emission.{told, put_before, emission};
+ghost use Rattle.desc.specs.Table.{cell, node_fits, kids_at, table};
+ghost use Rattle.desc.specs.Emitting.{Pen, put_number, put_name, sized, verdict, names_from};
+ghost use Rattle.desc.specs.Inner.Emission.{told, put_before, emission, kids_emission};
 ghost use Rattle.desc.specs.Inner.Rows.{row_at};
 ghost use Rattle.desc.specs.Encoding.{encode_desc};
 
 use crate::head::{TAG_BYTES, TAG_FACT, TAG_RECORD, TAG_UNION};
-use crate::node::read_cell;
+use crate::inner::put_desc;
+use crate::node::{read_cell, whole_row};
 use crate::{MAX_DEPTH, MAX_PAYLOAD, node};
 use varint::error::{Buffer, Fault, Refusal};
 use varint::store::{copy_bytes, fill_from};
@@ -29,7 +31,7 @@ pub struct Emitted {
 
 // A root's parent. It is the number 0 and no `None`: where there is a parent, its tag is only compared with a constant, and no type with parts has tag 0. An
 // Option would need a clause that the tag inside is not 0.
-const NO_PARENT: u64 = 0;
+pub(crate) const NO_PARENT: u64 = 0;
 
 // The greatest number in a column that has one of 32 bits where it is used, and else 0.
 fn greatest(used: bool) -> u64
@@ -80,13 +82,21 @@ pub fn put_name(text: &[u8], name: Span, out: &mut [u8], at: usize) -> usize
     at.saturating_add(name.len)
 }
 
-// Where the bytes of a tree go. Each step is inlined.
-trait Sink: Drop {
+// What is made of a node table: where the bytes go, and whether a node is tested before. Each step is inlined.
+pub(crate) trait Sink: Drop {
+    // Is the table tested on the way? A sink that does not relies on a test before it.
+    ghost tests: { Bool };
+
     // What is stored, and the place of the next byte.
     ghost pen: { Self → Pen };
 
     // Which buffer it was lent: it stays the same.
     ghost lent: { Self → ℕ };
+
+    // The numbers of node `n`, if it is there and laid out as a node may be below a parent with this tag.
+    fn row(nodes: &[u64], n: usize, parent: u64) -> Option<&[u64; node::WIDTH]>
+        requires { Self.tests ≡ false → node_fits nodes.now n parent ≡ true }
+        ensures { MatchOption result (node_fits nodes.now n parent ≡ false) (λ row. (node_fits nodes.now n parent ≡ true) × (row.now ≡ row_at nodes.now n)) };
 
     // A number, as a varint.
     fn number(&mut self, v: u64)
@@ -101,15 +111,26 @@ trait Sink: Drop {
 
 // A buffer, and the place in it where the next byte goes.
 #[derive(Drop)]
-struct Writer<'a> {
-    out: &'a mut [u8],
-    at: usize,
+pub(crate) struct Writer<'a> {
+    pub(crate) out: &'a mut [u8],
+    pub(crate) at: usize,
 }
 
 impl Sink for Writer<'_> {
+    ghost tests = { false };
+
     ghost pen = { λ w. record { out = w.out.now; place = w.at } };
 
     ghost lent = { λ w. w.out.ghost_name };
+
+    // What the trait asks and promises stands here once more, with its `tests`: the prover does not put it in by itself.
+    #[inline(always)]
+    fn row(nodes: &[u64], n: usize, parent: u64) -> Option<&[u64; node::WIDTH]>
+        requires { false ≡ false → node_fits nodes.now n parent ≡ true }
+        ensures { MatchOption result (node_fits nodes.now n parent ≡ false) (λ row. (node_fits nodes.now n parent ≡ true) × (row.now ≡ row_at nodes.now n)) }
+    {
+        Some(whole_row(nodes, n))
+    }
 
     // A tag, a count, a predicate or a name's length mostly has one byte: that takes no call.
     #[inline(always)]
@@ -136,9 +157,16 @@ struct Gauge {
 }
 
 impl Sink for Gauge {
+    ghost tests = { true };
+
     ghost pen = { λ g. record { out = []; place = g.size } };
 
     ghost lent = { λ _. 0 };
+
+    #[inline(always)]
+    fn row(nodes: &[u64], n: usize, parent: u64) -> Option<&[u64; node::WIDTH]> {
+        fitting_row(nodes, n, parent)
+    }
 
     #[inline(always)]
     #[tactic(auto, using(crate::proofs::GaugeLaws::number_gauged))]
@@ -155,9 +183,9 @@ impl Sink for Gauge {
 
 // A node table and the text that its names are in.
 #[derive(Clone, Copy)]
-struct Table<'a> {
-    text: &'a [u8],
-    nodes: &'a [u64],
+pub(crate) struct Table<'a> {
+    pub(crate) text: &'a [u8],
+    pub(crate) nodes: &'a [u64],
 }
 
 impl Table<'_> {
@@ -181,15 +209,24 @@ impl Table<'_> {
     }
 
     // Writes what stands before node `n`, which is below a parent with this tag, the node and all below it, where `depth` more levels may nest, and returns
-    // the node after the last one written.
-    fn emit<S: Sink>(&self, n: usize, parent: u64, depth: u64, sink: &mut S) -> Option<usize>
+    // the node after the last one written. It is inlined in the loop over children, so that only a type with parts takes a call.
+    #[cycle(emit)]
+    #[inline(always)]
+    pub(crate) fn emit<S: Sink>(
+        &self,
+        n: usize,
+        parent: u64,
+        depth: u64,
+        sink: &mut S,
+    ) -> Option<usize>
+        requires { Again S.tests (table depth self.now.nodes.now n parent) }
         ensures kept { S.lent sink.new ≡ S.lent sink.old }
         ensures written { told result (S.pen sink.new) ≡ emission self.now.text.now (table depth self.now.nodes.now n parent) (put_before self.now.text.now parent (row_at self.now.nodes.now n) (S.pen sink.old)) }
     {
         if depth == 0 {
             return None;
         }
-        let row = fitting_row(self.nodes, n, parent)?;
+        let row = S::row(self.nodes, n, parent)?;
         self.label(row, parent, sink);
         let tag = row[node::TAG];
         sink.number(tag);
@@ -201,16 +238,36 @@ impl Table<'_> {
         }
         let count = row[node::COUNT];
         sink.number(count);
-        let mut next = n + 1;
-        for _ in 0..count {
-            next = self.emit(next, tag, depth - 1, sink)?;
-        }
+        let next = self.emit_kids(tag, count, n + 1, depth - 1, sink)?;
         (row[node::END] == next as u64).then_some(next)
+    }
+
+    // Writes so many children of a type with this tag, the first of which is node `n`, and returns the node after the last one written.
+    #[cycle(emit)]
+    fn emit_kids<S: Sink>(
+        &self,
+        tag: u64,
+        count: u64,
+        n: usize,
+        depth: u64,
+        sink: &mut S,
+    ) -> Option<usize>
+        requires part { tag ≡ 0 → ⊥ }
+        requires laid { Again S.tests (kids_at (table depth self.now.nodes.now) self.now.nodes.now tag count n) }
+        ensures kept { S.lent sink.new ≡ S.lent sink.old }
+        ensures written { told result (S.pen sink.new) ≡ kids_emission self.now.text.now tag (kids_at (table depth self.now.nodes.now) self.now.nodes.now tag count n) (S.pen sink.old) }
+    {
+        let mut next = n;
+        for _ in 0..count {
+            next = self.emit(next, tag, depth, sink)?;
+        }
+        Some(next)
     }
 }
 
 // The node after the tree whose root is node `n`, and how many bytes it takes by the lengths in the table; a size over 2^64−1 is told as
 // 2^64−1.
+#[tactic(auto, using(varint::proofs::Agains::checks))]
 pub fn size_desc(nodes: &[u64], n: usize, limit: u64) -> Option<Emitted>
     ensures { result ≡ sized (table limit nodes.now n 0) }
 {
@@ -218,33 +275,6 @@ pub fn size_desc(nodes: &[u64], n: usize, limit: u64) -> Option<Emitted>
     let next = Table { text: &[], nodes }.emit(n, NO_PARENT, limit, &mut gauge)?;
     let place = gauge.size;
     Some(Emitted { next, place })
-}
-
-// Writes the tree whose root is node `n` from place `at` of `out` on, as far as `out` goes: for whoever writes a descriptor within other bytes. Of
-// a table that is not laid out as one nothing is written. Past the end of `out` nothing is stored, and the size tells the place.
-pub fn put_desc(
-    text: &[u8],
-    nodes: &[u64],
-    n: usize,
-    limit: u64,
-    out: &mut [u8],
-    at: usize,
-) -> Option<Emitted>
-    ensures { record { answer = result; out = out.new } ≡ put_desc text.now (table limit nodes.now n 0) (record { out = out.old; place = at }) }
-{
-    let Emitted { next, place } = size_desc(nodes, n, limit)?;
-    if out.len() <= at {
-        return Some(Emitted {
-            next,
-            place: at.saturating_add(place),
-        });
-    }
-    let mut writer = Writer { out, at };
-    let next = Table { text, nodes }.emit(n, NO_PARENT, limit, &mut writer)?;
-    Some(Emitted {
-        next,
-        place: writer.at,
-    })
 }
 
 // Is the name in the text, and is it UTF-8?
@@ -295,8 +325,7 @@ pub fn encode_desc(text: &[u8], nodes: &[u64], out: &mut [u8]) -> Written
     if out.len() < place {
         return Err(Refusal::too_small(Buffer::Out, place));
     }
-    let mut writer = Writer { out, at: 0 };
-    let _ = Table { text, nodes }.emit(0, NO_PARENT, MAX_DEPTH, &mut writer);
-    fill_from(writer.out, place, 0);
+    put_desc(text, nodes, 0, MAX_DEPTH, out, 0);
+    fill_from(out, place, 0);
     Ok(place)
 }

@@ -1,12 +1,11 @@
-use mathlib.Core.Path.{◌≡◌, refl}
+use mathlib.Core.Path.{◌≡◌, refl, sym, ◌∙◌}
 use Rattle.desc.specs.declared.write.Emitted.{Emitted}
 use Prim.Native.Nat.{◌<◌}
 use native.Mathlib.Omega.{arith}
 use lib.ListN.{length}
-use borrow.Author.Rules.{rules}
 use Rattle.std.proofs.lemmas.Result.{err_from_is_err_and}
 use Rattle.desc.proofs.EmitEncode.{encode_refused, encode_big, encode_small, encode_done}
-use Rattle.desc.proofs.EmitPens.{at_root}
+use Rattle.desc.proofs.EmitPut.{laid_out}
 use Rattle.desc.proofs.EmitWhole.{layout_bad, names_bad, whole}
 use Rattle.desc.proofs.write.encode_desc.Goals as goal
 use Rattle.std.specs.Prelude.{Some, None, Option}
@@ -39,10 +38,11 @@ returns-in_err-check_names c =
     let p = err_from_is_err_and c.from_residual.result c.from_residual.ensures.1 in
     rw (p.1, p.2) (encode_refused 67108864 64 a.text.now a.nodes.now a.out.now _ (names_bad a.text.now a.nodes.now 64 0 _ c.size_desc.ensures _ _ _ c.in-Some.is c.check_names.ensures _ c.in_err-check_names.was))
 
+pub put_desc-requires : goal.put_desc-requires
+put_desc-requires c = laid_out _ (sym c.in-Some.is ∙ c.size_desc.ensures)
+
 pub returns : goal.returns
 returns c =
     let a = c.args in
     let l : length a.out.now < 18446744073709551616 = omega arith in
-    let kept = c.emit.ensures.kept in
-    let done = encode_done 67108864 64 a.text.now a.nodes.now a.out.now _ _ (whole a.text.now a.nodes.now 64 0 _ c.size_desc.ensures _ _ _ c.in-Some.is c.check_names.ensures c.in_ok-check_names.was) c.if-place-gt-MAX_PAYLOAD.false (omega arith) _ _ _ l c.if-out-place.false (at_root _ _ _ _ _ c.emit.ensures.written refl) c.fill_from.ensures in
-    search rules
+    encode_done 67108864 64 a.text.now a.nodes.now a.out.now _ _ (whole a.text.now a.nodes.now 64 0 _ c.size_desc.ensures _ _ _ c.in-Some.is c.check_names.ensures c.in_ok-check_names.was) c.if-place-gt-MAX_PAYLOAD.false (omega arith) _ _ l c.if-out-place.false c.put_desc.ensures c.fill_from.ensures
