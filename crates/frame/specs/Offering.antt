@@ -2,11 +2,12 @@
 use Rattle.std.specs.Prelude.{Bool, true, ◌≡◌, refl, List, [], ◌∷◌, ◌++◌, ℕ, ◌+◌, ◌-◌, eqb, ltb, leb, length, take, drop, replicate, Result, Ok, Err}
 use Rattle.varint.specs.Choice.{pick}
 use Rattle.varint.specs.Fixed.{le}
+use Rattle.varint.specs.Lent.{Left}
 use Rattle.varint.specs.Refusals.{code_of}
 use Rattle.varint.specs.Stores.{part}
 use Rattle.varint.specs.declared.error.Code.{Code}
 use Rattle.varint.specs.declared.error.Refusal.TheVariants.{BadReceiver, BadKindTable}
-use Rattle.protocol.specs.Decoding.{Left}
+use Rattle.protocol.specs.declared.message.Message.{Message}
 use Rattle.frame.specs.declared.receiver.Progress.{Progress}
 use Rattle.frame.specs.declared.receiver.Receiver.{Receiver}
 use Rattle.frame.specs.declared.receiver.Offered.{Offered}
@@ -77,7 +78,7 @@ impossible l p =
     (pick (ltb p.header_len 9) (ltb 0 p.payload_len) (overfull (judge l p.hold_len (header_held p)) p.payload_len))
 
 -- The frame is whole: "header and hold are zero again".
-unfoldable pub handed : World → FrameHeader → (used : ℕ) → Left → Offer
+unfoldable pub handed : World → FrameHeader → (used : ℕ) → Left Message → Offer
 handed w h u x = record {
   outcome = Handed h x.answer;
   used = u;

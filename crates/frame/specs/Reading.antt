@@ -1,12 +1,13 @@
 -- The reading of a run: what a whole run of bytes means, however it came. Demand 3 holds everything that is offered in pieces against it.
 use Rattle.std.specs.Prelude.{List, [], ◌∷◌, ℕ, zero, suc, ◌+◌, ◌-◌, min, ltb, length, take, drop, get_or, replicate, Result}
 use Rattle.varint.specs.Choice.{pick}
+use Rattle.varint.specs.Lent.{Left}
 use Rattle.varint.specs.Refusals.{code_of}
 use Rattle.varint.specs.declared.error.Code.{Code}
 use Rattle.varint.specs.declared.error.Buffer.TheVariants.{Hold}
 use Rattle.varint.specs.declared.error.Refusal.{Refusal}
 use Rattle.varint.specs.declared.error.Refusal.TheVariants.{BlockTooLarge, TooSmall}
-use Rattle.protocol.specs.Decoding.{Left, decode_message}
+use Rattle.protocol.specs.Decoding.{decode_message}
 use Rattle.frame.specs.declared.FrameHeader.{FrameHeader}
 use Rattle.frame.specs.Frames.{kind_of, length_of, header_of}
 use Rattle.frame.specs.Worlds.{Limits, Setup, Lent, World, receiver_of, running, pad}
@@ -57,7 +58,7 @@ first_of (refuse e) len = bad e
 first_of (gather n) len = pick (ltb len (9 + n)) short (whole n)
 
 -- "an accepted message sets these three as its decoder's definition says, an opaque one as said above, and a refused one keeps them"
-abbrev pub lent_by : Left → Lent
+abbrev pub lent_by : Left Message → Lent
 lent_by x = record { text = x.text; rows = x.rows; nodes = x.nodes }
 
 module _ (l : Limits) (c : Setup) where
@@ -75,11 +76,11 @@ module _ (l : Limits) (c : Setup) where
   stopped_at hd e b = record { receiver = receiver_of c hd 9 0 (code_of e); hold = replicate c.room 0; lent = b }
 
   -- the message of a kind: "An entry 1 to 12 names a message; any other is opaque"
-  unfoldable pub decoded_kind : (kind : ℕ) → List ℕ → Lent → Left
+  unfoldable pub decoded_kind : (kind : ℕ) → List ℕ → Lent → Left Message
   decoded_kind kind payload b = decode_message l.payload l.depth (get_or c.table kind 0) payload b.text b.rows b.nodes
 
   -- the frame of n payload bytes that s begins with
-  unfoldable pub answered : ℕ → List ℕ → Lent → Left
+  unfoldable pub answered : ℕ → List ℕ → Lent → Left Message
   answered n s b = decoded_kind (kind_of (take 9 s)) (take n (drop 9 s)) b
 
   abbrev pub frame_of : ℕ → List ℕ → Lent → Event

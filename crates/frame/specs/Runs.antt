@@ -3,6 +3,7 @@ use Rattle.std.specs.Prelude.{true, ◌≡◌, refl, List, [], ◌∷◌, ◌++�
 use Rattle.varint.specs.Choice.{pick}
 use Rattle.varint.specs.Fixed.{le}
 use Rattle.varint.specs.Leb128.{read_from, get_u64}
+use Rattle.varint.specs.Lent.{settled, fitted}
 use Rattle.varint.specs.Refusals.{code_of}
 use Rattle.varint.specs.Stores.{part, filled}
 use Rattle.varint.specs.Texts.{skim_text, get_text, get_name}
@@ -11,7 +12,7 @@ use Rattle.varint.specs.declared.error.Buffer.TheVariants.{Hold}
 use Rattle.varint.specs.declared.error.Mismatch.TheVariants as M
 use Rattle.varint.specs.declared.error.Refusal.TheVariants.{TooSmall, TypeMismatch}
 use Rattle.protocol.specs.Control.{read_control, lay_control}
-use Rattle.protocol.specs.Decoding.{decode_message, settled, fitted}
+use Rattle.protocol.specs.Decoding.{decode_message}
 use Rattle.protocol.specs.Said.{read_message, read_entry, lay}
 use Rattle.protocol.specs.declared.message.ControlOp.TheVariants.{Finish}
 use Rattle.protocol.specs.declared.message.Message.TheVariants as Msg

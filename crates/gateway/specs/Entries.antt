@@ -3,19 +3,19 @@ use Rattle.std.specs.Prelude.{Bool, false, ◌≡◌, refl, List, [], ◌∷◌,
 use Rattle.varint.specs.Choice.{pick}
 use Rattle.varint.specs.Formats.{print_all}
 use Rattle.varint.specs.Leb128.{read_from, get_u64, put_by, put_u64}
-use Rattle.varint.specs.Outs.{Sent, wrote, send}
+use Rattle.varint.specs.Lent.{Left, fitted, settled}
+use Rattle.varint.specs.Outs.{Sent, wrote, send, sent}
 use Rattle.varint.specs.Stores.{part, filled}
 use Rattle.varint.specs.Texts.{skim_text, get_text, get_name}
 use Rattle.varint.specs.Utf8.{utf8, scan, lead}
 use Rattle.varint.specs.declared.error.Fault.{Fault}
 use Rattle.varint.specs.declared.error.Fault.TheVariants.{RowCount, Number}
 use Rattle.varint.specs.declared.error.Refusal.TheVariants.{BadMessage}
-use Rattle.desc.specs.Decoding as DescDecoding
 use Rattle.desc.specs.Decoding.{decode_desc}
 use Rattle.desc.specs.Encoding.{encode_desc}
 use Rattle.protocol.specs.Control.{read_control, lay_control}
-use Rattle.protocol.specs.Decoding.{Left, fitted, settled, decode_message}
-use Rattle.protocol.specs.Encoding.{held_said, sent, encode_message}
+use Rattle.protocol.specs.Decoding.{decode_message}
+use Rattle.protocol.specs.Encoding.{held_said, encode_message}
 use Rattle.protocol.specs.Fetch.{held_fetch}
 use Rattle.protocol.specs.Ids.{id_width}
 use Rattle.protocol.specs.RowsHeld.{held_times}
@@ -61,7 +61,7 @@ encoded p d = record { result = p.refusal.number; answer = numbers_of p; out = d
 abbrev pub named_entry : ℕ → ℕ
 named_entry entry = pick (leb entry 12) entry 0
 
-abbrev pub message_left : ℕ → Left → Decoded
+abbrev pub message_left : ℕ → Left Message → Decoded
 message_left n l = decoded (of_message n l.answer) l.text l.rows l.nodes
 
 unfoldable pub decode_call : ℕ → List ℕ → List ℕ → List ℕ → List ℕ → Decoded
@@ -69,7 +69,7 @@ decode_call entry s tx rs nd = message_left (named_entry entry) (decode_message 
 
 -- fjord_decode_desc: "Read alone, a descriptor is a message without rows"
 
-abbrev pub desc_left : DescDecoding.DecodedDesc → Decoded
+abbrev pub desc_left : Left ℕ → Decoded
 desc_left l = decoded (of_used l.answer) l.text l.rows l.nodes
 
 unfoldable pub decode_desc_call : List ℕ → List ℕ → List ℕ → List ℕ → Decoded

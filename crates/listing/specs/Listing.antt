@@ -4,9 +4,10 @@ use Rattle.std.specs.Prelude.{◌≡◌, refl, List, [], ◌∷◌, ◌++◌, �
 use Rattle.std.proofs.lemmas.List.Edits.{sets}
 use Rattle.varint.specs.Fixed.{le}
 use Rattle.varint.specs.Leb128.{read_from, get_u64}
+use Rattle.varint.specs.Lent.{settled, fitted}
 use Rattle.varint.specs.Outs.{declared}
 use Rattle.varint.specs.Stores.{part, filled}
-use Rattle.protocol.specs.Decoding.{decode_message, settled, fitted}
+use Rattle.protocol.specs.Decoding.{decode_message}
 use Rattle.protocol.specs.Ready.{read_ready, lay_ready}
 use Rattle.protocol.specs.Said.{read_message, read_entry, lay}
 use Rattle.frame.specs.declared.receiver.Receiver.{Receiver}

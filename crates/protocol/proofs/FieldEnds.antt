@@ -1,33 +1,31 @@
 -- Where fields that were read end, and what they say of their parts.
 use mathlib.Core.Bool.{Bool, true, false}
-use mathlib.Core.Path.{◌≡◌, refl, sym, ◌∙◌, ap, subst}
-use mathlib.Core.List.{List}
+use mathlib.Core.Path.{◌≡◌, refl, sym, subst, ap}
+use mathlib.Core.List.{List, [], ◌∷◌}
 use Prim.Native.Nat.{◌<◌, ℕ, ◌+◌, ◌≤◌}
 use native.Mathlib.Omega.{arith}
 use lib.Dec.{ltb}
-use lib.ListN.{get_or, length}
+use lib.ListN.{get_or, length, drop}
 use borrow.Author.Tests.{ltb-true}
+use Rattle.varint.specs.Utf8.{utf8}
+use Rattle.protocol.specs.Codes.{mode_of, mode_byte, error_of, error_byte, op_of, op_byte}
 use Rattle.varint.specs.Choice.{pick}
 use Rattle.varint.specs.Got.{Got, then}
-use Rattle.varint.specs.Formats.{Format, got_text}
+use Rattle.varint.specs.Formats.{Format}
 use Rattle.varint.specs.Leb128.{get_u64}
-use Rattle.varint.specs.Texts.{skim_text, span}
 use Rattle.varint.specs.declared.error.Mismatch.{Mismatch}
+use Rattle.varint.specs.declared.error.Mismatch.TheVariants as M
 use Rattle.varint.specs.declared.error.Refusal.{Refusal}
 use Rattle.varint.specs.declared.error.Refusal.TheVariants.{TypeMismatch}
 use Rattle.varint.proofs.FormatEnds.{Ends, varint_ends, named_ends}
 use Rattle.varint.proofs.FormatParts.{num_inside, went}
 use Rattle.varint.proofs.Gots.{no_got, got_of}
-use Rattle.varint.proofs.StoreLaws.{length_part}
-use Rattle.varint.proofs.TextLaws.{TextEnds, skim_ends, text_skims}
 use Rattle.desc.specs.Layout.{texts}
-use Rattle.desc.specs.Reading.{name_by}
 use Rattle.desc.specs.Trees.{size}
+use Rattle.desc.specs.WellFormed.{descriptor}
 use Rattle.desc.proofs.Bounds.{desc_bounds}
-use Rattle.desc.proofs.SkimLaws.{name_skims}
-use Rattle.protocol.specs.Fields.{text_by, name, text, descriptor, provided, byte, yes, bit, flag, wide_flag}
-use Rattle.std.specs.Prelude.{Ok, Err}
-use Rattle.varint.specs.declared.text.Span.{Span}
+use Rattle.protocol.specs.Fields.{provided, byte, yes, bit, flag, wide_flag, made_at, mode, error_code, control_op, to_end}
+use Rattle.std.specs.Prelude.{Ok, Err, Result}
 
 -- What a field that was read says of its parts
 
@@ -55,31 +53,9 @@ byte_got missing s at b q e =
 
 -- The fields
 
--- a text that is found, checked or not
-pub found_ends : (s : List ℕ) (at : ℕ) (x : Got Span) (t : List ℕ) (q : ℕ) → ((start n next : ℕ) → x ≡ Ok (span start n, next) → skim_text s at ≡ Ok (span start n, next))
-    → got_text s x ≡ Ok (t, q) → (at + (length t + 1) ≤ q) × (q ≤ length s)
-found_ends s at (Err r) t q k e = no_got e
-found_ends s at (Ok (x, next)) t q k e =
-    let h : TextEnds at (length s) (Ok (x, next)) = rw (k x.start x.len next refl) at (skim_ends s at) in
-    let h₀ = h.0 in
-    let h₁ = h.1 in
-    let h₂ = h.2 in
-    let w = got_of e in
-    let w₁ = w.1 in
-    let l : length t ≡ x.len = ap length (sym w.0) ∙ length_part s x.start x.len (omega arith) in
-    (omega arith, omega arith)
-
-pub name_ends : (check : Bool) → Ends (name check) length 1
-name_ends true = record { ends = λ s at t q h e. found_ends s at (name_by true s at) t q (λ p n o. name_skims s at p n o) e }
-name_ends false = record { ends = λ s at t q h e. found_ends s at (name_by false s at) t q (λ p n o i. i) e }
-
-pub text_ends : (check : Bool) → Ends (text check) length 1
-text_ends true = record { ends = λ s at t q h e. found_ends s at (text_by true s at) t q (λ p n o. text_skims s at p n o) e }
-text_ends false = record { ends = λ s at t q h e. found_ends s at (text_by false s at) t q (λ p n o i. i) e }
-
-pub descriptor_ends : (check : Bool) (limit : ℕ) → Ends (descriptor check limit) (λ tr. length (texts tr) + size tr) 0
-descriptor_ends check limit =
-    record { ends = λ s at tr q h e. let i = desc_bounds check limit limit s at tr q h e in let i₀ = i.0 in (omega arith, i.1) }
+pub descriptor_ends : (limit : ℕ) → Ends (descriptor limit) (λ tr. length (texts tr) + size tr) 0
+descriptor_ends limit =
+    record { ends = λ s at tr q h e. let i = desc_bounds limit limit s at tr q h e in let i₀ = i.0 in (omega arith, i.1) }
 
 pub provided_ends : {A : Type 0} {f : Format A} {w : A → ℕ} {k : ℕ} (good : A → Bool) (why : A → Refusal) → Ends f w k → Ends (provided good why f) w k
 provided_ends {f = f} good why F = record { ends = λ s at a q h e. F.ends s at a q h (passed (f.read s at) good why a q e).0 }
@@ -139,3 +115,28 @@ wide_flag_inside s at b q e =
     let i = num_inside s at w.value w.next w.first in
     let k = (got_of w.rest).1 in
     rw (← k) i
+
+-- Fields of a byte, and the rest of a payload
+
+-- what was made is what is told, and no more was read
+pub made_got : {A : Type 0} (x : Result A Refusal) (p : ℕ) (a : A) (q : ℕ) → made_at x p ≡ Ok (a, q) → (x ≡ Ok a) × (p ≡ q)
+made_got (Ok b) p a q e = let w = got_of e in (ap (λ c. Ok c) w.0, w.1)
+made_got (Err r) p a q e = no_got e
+
+-- what a byte stands for
+coded_ends : {A : Type 0} (missing : Refusal) (of : ℕ → Result A Refusal) (print : A → List ℕ)
+    → Ends (record { read = λ s at. then ((byte missing).read s at) (λ b q. made_at (of b) q); print = print }) (λ a. 0) 1
+coded_ends missing of print =
+    chain_ends (λ b s p. made_at (of b) p) print (λ a. 0) (byte_ends missing) (λ s p b a q h e. stays h (made_got (of b) p a q e).1)
+
+pub mode_ends : Ends mode (λ m. 0) 1
+mode_ends = coded_ends (TypeMismatch M.Mode) mode_of (λ m. mode_byte m ∷ [])
+
+pub code_ends : Ends error_code (λ m. 0) 1
+code_ends = coded_ends (TypeMismatch M.ErrorCode) error_of (λ m. error_byte m ∷ [])
+
+pub op_ends : Ends control_op (λ m. 0) 1
+op_ends = coded_ends (TypeMismatch M.ControlOp) op_of (λ m. op_byte m ∷ [])
+
+pub to_end_got : (s : List ℕ) (at : ℕ) (x : List ℕ) (q : ℕ) → to_end.read s at ≡ Ok (x, q) → (drop at s ≡ x) × (length s ≡ q)
+to_end_got s at x q e = got_of (kept (utf8 (drop at s)) _ _ e).1

@@ -3,9 +3,9 @@ pub mod DescLoads
 pub mod EntryLaws
 pub mod FieldEnds
 pub mod Knows
+pub mod Loads
 pub mod MessageFields
 pub mod MessageReads
-pub mod MessageSkims
 pub mod PieceLaws
 pub mod RowEnds
 pub mod RowLoads
@@ -14,6 +14,8 @@ pub mod RowReads
 pub mod RowStores
 pub mod RowsLaws
 pub mod RowsLoop
+pub mod Sizes
 pub mod StartupReads
 pub mod TextsRead
 pub mod TypeLoads
+pub mod WholeLaws

@@ -2,7 +2,7 @@
 use mathlib.Core.Path.{◌≡◌, refl, sym, ◌∙◌, ap}
 use mathlib.Core.List.{List, [], ◌∷◌, ◌++◌}
 use Prim.Native.Nat.{ℕ, ◌+◌, ◌*◌}
-use native.Mathlib.Nat.{add_assoc, add-zero}
+use native.Mathlib.Nat.{add_assoc, add-zero, suc-mul}
 use native.Mathlib.Omega.{arith}
 use lib.ListN.{length, length-append}
 use Rattle.desc.specs.Layout.{width, placed}
@@ -27,6 +27,15 @@ pub many_seven : {A : Type 0} (piece : A → Piece) → ((a : A) → Seven (piec
 unfolding many
 many_seven piece h [] t n = refl
 many_seven piece h (a ∷ l) t n = join_seven (piece a) (many piece l) (h a) (many_seven piece h l) t n
+
+-- n rows have n times as many numbers
+pub rows_length : {A : Type 0} (piece : A → Piece) (wide : ℕ) → ((a : A) (t n : ℕ) → length ((piece a).rows t n) ≡ wide)
+    → (l : List A) (t n : ℕ) → length ((many piece l).rows t n) ≡ length l * wide
+unfolding many
+rows_length piece wide cells [] t n = omega arith
+rows_length piece wide cells (a ∷ l) t n =
+    let i = rows_length piece wide cells l (t + length (piece a).text) (n + (piece a).size) in
+    rw (length-append, cells a t n, i, suc-mul) (omega arith)
 
 pub put_none : (m : Mem) → put none m ≡ m
 put_none m =

@@ -1,77 +1,66 @@
--- A row that was read, as its reader tells it.
-use mathlib.Core.Path.{◌≡◌, sym, ◌∙◌, ap}
-use mathlib.Core.List.{List, [], ◌∷◌}
+-- The numbers of a row, put after a text or a descriptor, which stand before it in the row's piece.
+use mathlib.Core.Path.{◌≡◌, refl, sym, ◌∙◌, ap}
+use mathlib.Core.List.{List, [], ◌++◌}
 use Prim.Native.Nat.{ℕ, ◌+◌, ◌*◌}
 use native.Mathlib.Nat.{add-zero}
 use native.Mathlib.Omega.{arith}
 use lib.ListN.{length}
-use Rattle.varint.specs.Got.{Got}
 use Rattle.desc.specs.Layout.{width}
-use Rattle.protocol.specs.Inner.Loading.{Mem, put, stored, with_row, with_words, loaded, load, told}
-use Rattle.protocol.specs.Pieces.{Piece, words}
-use Rattle.protocol.proofs.RowStores.{stored_none, stored_append}
-use Rattle.protocol.proofs.TextsRead.{Kept}
-use Rattle.protocol.proofs.TypeLoads.{put_words}
-use Rattle.std.specs.Prelude.{Ok}
-use Rattle.varint.specs.Stores.{part}
-use Rattle.varint.specs.declared.text.Span.{Span}
+use Rattle.protocol.specs.Inner.Loading.{stored, Mem, put}
+use Rattle.protocol.specs.Pieces.{Piece, cells, words, ◌⊕◌}
+use Rattle.protocol.proofs.PieceLaws.{put_join}
+use Rattle.protocol.proofs.RowStores.{stored_none}
 
--- a row of numbers and a text, without nodes
-pub flat_read : {A : Type 0} (piece : A → Piece) (m : Mem) {g : Got A} {m' : Mem} {a : A} {q : ℕ} → g ≡ Ok (a, q)
-    → ((t n : ℕ) → (piece a).nodes t n ≡ []) → (piece a).size ≡ 0
-    → m' ≡ record { check = m.check; limit = m.limit; text = stored m.check m.text m.t (piece a).text; t = m.t + length (piece a).text; rows = stored m.check m.rows m.r ((piece a).rows m.t m.n); r = m.r + length ((piece a).rows m.t m.n); nodes = m.nodes; n = m.n }
-    → told (Ok q) m' ≡ load piece g m
-unfolding load told
-flat_read piece m {a = a} {q} h ν z e =
-    rw h
-    (ap (loaded q)
-    (e
-    ∙ λ i. record {
+-- numbers alone
+abbrev with_row : List ℕ → Mem → Mem
+with_row x m = record { check = m.check; limit = m.limit; text = m.text; t = m.t; rows = stored m.check m.rows m.r x; r = m.r + length x; nodes = m.nodes; n = m.n }
+
+pub put_cells : (row : ℕ → ℕ → List ℕ) (m : Mem) → put (cells row) m ≡ with_row (row m.t m.n) m
+put_cells row m =
+    λ i. record {
       check = m.check;
       limit = m.limit;
-      text = stored m.check m.text m.t (piece a).text;
-      t = m.t + length (piece a).text;
-      rows = stored m.check m.rows m.r ((piece a).rows m.t m.n);
-      r = m.r + length ((piece a).rows m.t m.n);
-      nodes = kept i;
-      n = same i;
-    }))
-  where
-    kept : m.nodes ≡ stored m.check m.nodes (m.n * width) ((piece a).nodes m.t m.n)
-    kept = sym (rw (ν m.t m.n) (stored_none m.check m.nodes (m.n * width)))
+      text = stored_none m.check m.text m.t i;
+      t = add-zero m.t i;
+      rows = stored m.check m.rows m.r (row m.t m.n);
+      r = m.r + length (row m.t m.n);
+      nodes = stored_none m.check m.nodes (m.n * width) i;
+      n = add-zero m.n i;
+    }
 
-    same : m.n ≡ m.n + (piece a).size
-    same = sym (rw z (add-zero m.n))
-
--- the memory after a text that was read, in which the row's place is what it was
-module _ {s : List ℕ} {g : Got Span} {at : ℕ} {m m' : Mem} {x : Span} {q : ℕ} (w : Kept s g at m m' x q) where
-  pub text_after : m' ≡ put (words (part s w.start x.len)) m
-  text_after = w.left ∙ ap (λ (n : ℕ). with_words (part s w.start x.len) n m) (sym w.long) ∙ sym (put_words (part s w.start x.len) m)
-
-  pub row_place : m'.r ≡ m.r
-  row_place = ap (λ (y : Mem). y.r) w.left
-
--- a text that was read, and numbers of a row after it
-pub text_and_row : (m m₁ : Mem) {m₂ : Mem} (row : ℕ → List ℕ) {s : List ℕ} {g : Got Span} {at : ℕ} {x : Span} {q : ℕ} (w : Kept s g at m m₁ x q)
-    → m₂ ≡ with_row (row x.start) m₁ → m₂ ≡ with_row (row m.t) (with_words (part s w.start x.len) x.len m)
-text_and_row m m₁ row {s = s} {x = x} w k =
-    k ∙ ap (with_row (row x.start)) w.left ∙ ap (λ (u : ℕ). with_row (row u) (with_words (part s w.start x.len) x.len m)) w.place
-
--- three numbers of a row and one more
-pub four_numbers : (a b c e : ℕ) (m m₁ : Mem) {f : ℕ} {m₂ : Mem} → m₁ ≡ with_row (a ∷ b ∷ c ∷ []) m → f ≡ e → m₂ ≡ with_row (f ∷ []) m₁
-    → m₂ ≡ with_row (a ∷ b ∷ c ∷ e ∷ []) m
-four_numbers a b c e m m₁ h i k =
-    k ∙ ap (λ (y : ℕ). with_row (y ∷ []) m₁) i ∙ ap (with_row (e ∷ [])) h
-    ∙ λ j. record {
+-- a piece without numbers may stand before them or after
+row_first : (x : List ℕ) (p : Piece) (m : Mem) → ((t n : ℕ) → p.rows t n ≡ []) → with_row x (put p m) ≡ put p (with_row x m)
+row_first x p m bare =
+    let o = put p m in
+    λ i. record {
       check = m.check;
       limit = m.limit;
-      text = m.text;
-      t = m.t;
-      rows = sym (stored_append m.check (a ∷ b ∷ c ∷ []) (e ∷ []) m.rows m.r) j;
-      r = r j;
-      nodes = m.nodes;
-      n = m.n;
+      text = o.text;
+      t = o.t;
+      rows = rows i;
+      r = r i;
+      nodes = o.nodes;
+      n = o.n;
     }
   where
-    r : m.r + 3 + 1 ≡ m.r + 4
+    rows : stored m.check (stored m.check m.rows m.r (p.rows m.t m.n)) (m.r + length (p.rows m.t m.n)) x
+        ≡ stored m.check (stored m.check m.rows m.r x) (m.r + length x) (p.rows m.t m.n)
+    rows = rw (bare m.t m.n, stored_none m.check m.rows m.r, add-zero m.r) (sym (stored_none m.check (stored m.check m.rows m.r x) (m.r + length x)))
+
+    r : m.r + length (p.rows m.t m.n) + length x ≡ m.r + length x + length (p.rows m.t m.n)
     r = omega arith
+
+module _ (row : ℕ → ℕ → List ℕ) (p : Piece) (bare : (t n : ℕ) → p.rows t n ≡ []) (m : Mem) (x : List ℕ) {m₁ m₂ : Mem} where
+  pub row_after : m₁ ≡ put p m → m₂ ≡ put (cells (λ t n. x)) m₁ → x ≡ row m.t m.n → m₂ ≡ put p (put (cells row) m)
+  row_after h k e =
+      k ∙ ap (λ (y : List ℕ). put (cells (λ t n. y)) m₁) e ∙ ap (put (cells (λ t n. row m.t m.n))) h
+      ∙ put_cells (λ t n. row m.t m.n) (put p m) ∙ row_first (row m.t m.n) p m bare ∙ ap (put p) (sym (put_cells row m))
+
+-- a row of numbers and a text
+pub row_and_text : (row : ℕ → ℕ → List ℕ) (v : List ℕ) (m : Mem) (x : List ℕ) {m₁ m₂ : Mem} → m₁ ≡ put (words v) m → m₂ ≡ put (cells (λ t n. x)) m₁ → x ≡ row m.t m.n
+    → m₂ ≡ put (cells row ⊕ words v) m
+row_and_text row v m x h k e = row_after row (words v) (λ t n. refl) m x h k e ∙ sym (put_join (cells row) (words v) m (λ t n. refl))
+
+-- numbers of a row, and more
+pub more_numbers : (x y : List ℕ) (m : Mem) {m₁ m₂ : Mem} → m₁ ≡ put (cells (λ t n. x)) m → m₂ ≡ put (cells (λ t n. y)) m₁ → m₂ ≡ put (cells (λ t n. x ++ y)) m
+more_numbers x y m h k = k ∙ ap (put (cells (λ t n. y))) h ∙ sym (put_join (cells (λ t n. x)) (cells (λ t n. y)) m (λ t n. refl))

@@ -1,7 +1,6 @@
 -- Rows of every kind, one after the other.
-use mathlib.Core.Bool.{Bool}
 use mathlib.Core.Path.{◌≡◌, refl, ap, ◌∙◌}
-use mathlib.Core.List.{List, [], ◌∷◌}
+use mathlib.Core.List.{List, ◌∷◌}
 use Prim.Native.Nat.{ℕ, suc, ◌+◌, ◌*◌, ◌≤◌, ◌<◌}
 use native.Mathlib.Omega.{arith}
 use lib.ListN.{length}
@@ -9,25 +8,31 @@ use Rattle.varint.specs.Got.{Got, then}
 use Rattle.varint.specs.Formats.{Format, read_times}
 use Rattle.varint.specs.declared.error.Refusal.{Refusal}
 use Rattle.varint.proofs.FormatEnds.{Ends, varint_ends}
-use Rattle.desc.specs.Trees.{Tree}
-use Rattle.protocol.specs.Fields.{bit, Optional, absent, present}
 use Rattle.protocol.specs.Ids.{lay_id}
-use Rattle.protocol.specs.Inner.Loading.{Mem, put, loaded, failed, load, Row, row, lay_row, load_row, load_rows}
-use Rattle.protocol.specs.Pieces.{Piece, cells, words, tree, ◌⊕◌, many}
+use Rattle.protocol.specs.Inner.Loading.{Mem, put, Loaded, loaded, failed, load, past}
+use Rattle.protocol.specs.Pieces.{Piece, many}
 use Rattle.protocol.specs.Profile.{lay_step}
 use Rattle.protocol.specs.Rows.{width_of}
+use Rattle.protocol.specs.Inner.Rows.{Row, row, lay_row}
 use Rattle.protocol.specs.Startup.{lay_claim}
-use Rattle.protocol.specs.Types.{Predicate, has_value, lay_value, lay_predicate}
+use Rattle.protocol.specs.Types.{lay_predicate}
 use Rattle.protocol.specs.declared.message.RowKind.{RowKind}
 use Rattle.protocol.specs.declared.message.RowKind.TheVariants as K
 use Rattle.protocol.proofs.PieceLaws.{Seven, put_none, put_join}
-use Rattle.protocol.proofs.RowEnds.{weight, claim_ends, step_ends, fact_ends, predicate_ends, predicate_nodes}
+use Rattle.protocol.proofs.RowEnds.{weight, claim_ends, step_ends, fact_ends, predicate_ends, predicate_nodes, predicate_rows}
 use Rattle.std.specs.Prelude.{Ok, Err}
 use Rattle.varint.proofs.Basics.{never}
 
+-- a row at place `at`, and `count` of them
+abbrev pub load_row : RowKind → List ℕ → ℕ → Mem → Loaded ℕ
+load_row kind s at m = load past (lay_row kind) ((row kind m.limit).read s at) m
+
+abbrev pub load_rows : RowKind → ℕ → List ℕ → ℕ → Mem → Loaded ℕ
+load_rows kind count s at m = load past (many (lay_row kind)) (read_times (row kind m.limit) count s at) m
+
 module _ {A : Type 0} (f : Format A) (piece : A → Piece) (s : List ℕ) where
-  some : (n at : ℕ) (m m' : Mem) (q : ℕ) → ((a : A) → Seven (piece a)) → (x : Got A) → f.read s at ≡ x → load piece x m ≡ loaded q m'
-      → load (many piece) (read_times f (suc n) s at) m ≡ load (many piece) (read_times f n s q) m'
+  some : (n at : ℕ) (m m' : Mem) (q : ℕ) → ((a : A) → Seven (piece a)) → (x : Got A) → f.read s at ≡ x → load past piece x m ≡ loaded q m'
+      → load past (many piece) (read_times f (suc n) s at) m ≡ load past (many piece) (read_times f n s q) m'
   unfolding load read_times many
   some n at m m' q seven (Err e) i h = never cc
   some n at m m' q seven (Ok (a, o)) i h =
@@ -35,16 +40,16 @@ module _ {A : Type 0} (f : Format A) (piece : A → Piece) (s : List ℕ) where
       let l : put (piece a) m ≡ m' = cc in
       rw (i, k, ← l) (go (read_times f n s q))
     where
-      go : (y : Got (List A)) → load (many piece) (then y (λ b e. Ok (a ∷ b, e))) m ≡ load (many piece) y (put (piece a) m)
+      go : (y : Got (List A)) → load past (many piece) (then y (λ b e. Ok (a ∷ b, e))) m ≡ load past (many piece) y (put (piece a) m)
       go (Err e) = refl
       go (Ok (b, e)) = ap (loaded e) (put_join (piece a) (many piece b) m (seven a))
 
-  none_left : (at : ℕ) (m : Mem) → load (many piece) (read_times f 0 s at) m ≡ loaded at m
+  none_left : (at : ℕ) (m : Mem) → load past (many piece) (read_times f 0 s at) m ≡ loaded at m
   unfolding load read_times many
   none_left at m = ap (loaded at) (put_none m)
 
-  no_more : (n at : ℕ) (m : Mem) (e : Refusal) (x : Got A) → f.read s at ≡ x → load piece x m ≡ failed e
-      → load (many piece) (read_times f (suc n) s at) m ≡ failed e
+  no_more : (n at : ℕ) (m : Mem) (e : Refusal) (x : Got A) → f.read s at ≡ x → load past piece x m ≡ failed e
+      → load past (many piece) (read_times f (suc n) s at) m ≡ failed e
   unfolding load read_times
   no_more n at m e (Ok (a, o)) i h = never cc
   no_more n at m e (Err x) i h = rw i h
@@ -57,32 +62,27 @@ row_seven K.Predicate a t n = predicate_nodes a t n
 row_seven K.Step a t n = refl
 row_seven K.Pair a t n = refl
 
--- what was read leaves the reading and the depth as they are
-stays : {A : Type 0} (piece : A → Piece) (g : Got A) (m m' : Mem) (q : ℕ) → load piece g m ≡ loaded q m' → (m.check ≡ m'.check) × (m.limit ≡ m'.limit)
+-- what was read leaves the depth as it is
+stays : {A : Type 0} (piece : A → Piece) (g : Got A) (m m' : Mem) (q : ℕ) → load past piece g m ≡ loaded q m' → m.limit ≡ m'.limit
 unfolding load
 stays piece (Ok (a, o)) m m' q h =
     let k : put (piece a) m ≡ m' = cc in
-    (ap (λ (y : Mem). y.check) k, ap (λ (y : Mem). y.limit) k)
+    ap (λ (y : Mem). y.limit) k
 stays piece (Err e) m m' q h = never cc
 
 module _ (kind : RowKind) where
   pub rows_more : (n : ℕ) (s : List ℕ) (at q : ℕ) (m m' : Mem) → load_row kind s at m ≡ loaded q m'
       → load_rows kind (suc n) s at m ≡ load_rows kind n s q m'
-  unfolding load_row load_rows
   rows_more n s at q m m' h =
-      let k = stays (lay_row kind) _ m m' q h in
-      some (row kind m.check m.limit) (lay_row kind) s n at m m' q (row_seven kind) _ refl h
-      ∙ ap (λ (b : Bool). load (many (lay_row kind)) (read_times (row kind b m.limit) n s q) m') k.0
-      ∙ ap (λ (l : ℕ). load (many (lay_row kind)) (read_times (row kind m'.check l) n s q) m') k.1
+      some (row kind m.limit) (lay_row kind) s n at m m' q (row_seven kind) _ refl h
+      ∙ ap (λ (l : ℕ). load past (many (lay_row kind)) (read_times (row kind l) n s q) m') (stays (lay_row kind) _ m m' q h)
 
   pub rows_none : (s : List ℕ) (at : ℕ) (m : Mem) → load_rows kind 0 s at m ≡ loaded at m
-  unfolding load_rows
-  rows_none s at m = none_left (row kind m.check m.limit) (lay_row kind) s at m
+  rows_none s at m = none_left (row kind m.limit) (lay_row kind) s at m
 
   pub rows_failed : (n : ℕ) (s : List ℕ) (at : ℕ) (m : Mem) (e : Refusal) → load_row kind s at m ≡ failed e
       → load_rows kind (suc n) s at m ≡ failed e
-  unfolding load_row load_rows
-  rows_failed n s at m e h = no_more (row kind m.check m.limit) (lay_row kind) s n at m e _ refl h
+  rows_failed n s at m e h = no_more (row kind m.limit) (lay_row kind) s n at m e _ refl h
 
 -- what a row takes of the bytes, and of memory
 pub record Took (s : List ℕ) (at q w : ℕ) (m m' : Mem) : Type 0 where
@@ -94,7 +94,7 @@ pub record Took (s : List ℕ) (at q w : ℕ) (m m' : Mem) : Type 0 where
 
 took : {A : Type 0} {f : Format A} {k : ℕ} (piece : A → Piece) (w : ℕ) → Ends f (λ a. weight (piece a)) k → 0 < k → w ≤ 2 * k
     → ((a : A) (t n : ℕ) → length ((piece a).rows t n) ≡ w)
-    → (s : List ℕ) (at q : ℕ) (m m' : Mem) → at ≤ length s → (x : Got A) → f.read s at ≡ x → load piece x m ≡ loaded q m' → Took s at q w m m'
+    → (s : List ℕ) (at q : ℕ) (m m' : Mem) → at ≤ length s → (x : Got A) → f.read s at ≡ x → load past piece x m ≡ loaded q m' → Took s at q w m m'
 unfolding load
 took piece w F z l wide s at q m m' h (Err e) i g = never cc
 took piece w F z l wide s at q m m' h (Ok (a, o)) i g =
@@ -109,18 +109,10 @@ took piece w F z l wide s at q m m' h (Ok (a, o)) i g =
     let e = wide a m.t m.n in
     record { on = omega arith; inside = omega arith; texts = omega arith; numbers = omega arith; rows = omega arith }
 
-type_wide : (p : Predicate) (t n : ℕ) → length ((lay_predicate p).rows t n) ≡ 6
-type_wide p t n = go p.value
-  where
-    go : (o : Optional (Tree (List ℕ))) → length ((cells (λ t n. p.id ∷ t ∷ length p.name ∷ bit p.virtual ∷ bit (has_value p.value) ∷ n ∷ []) ⊕ words p.name ⊕ tree p.key ⊕ lay_value o).rows t n) ≡ 6
-    go absent = refl
-    go (present v) = refl
-
 pub row_took : (kind : RowKind) (s : List ℕ) (at q : ℕ) (m m' : Mem) → at ≤ length s → load_row kind s at m ≡ loaded q m'
     → Took s at q (width_of kind) m m'
-unfolding load_row
-row_took K.Claim s at q m m' h g = took lay_claim 3 (claim_ends m.check) (omega arith) (omega arith) (λ a t n. refl) s at q m m' h _ refl g
+row_took K.Claim s at q m m' h g = took lay_claim 3 claim_ends (omega arith) (omega arith) (λ a t n. refl) s at q m m' h _ refl g
 row_took K.Id s at q m m' h g = took lay_id 1 varint_ends (omega arith) (omega arith) (λ a t n. refl) s at q m m' h _ refl g
-row_took K.Predicate s at q m m' h g = took lay_predicate 6 (predicate_ends m.check m.limit) (omega arith) (omega arith) type_wide s at q m m' h _ refl g
-row_took K.Step s at q m m' h g = took lay_step 4 (step_ends m.check) (omega arith) (omega arith) (λ a t n. refl) s at q m m' h _ refl g
+row_took K.Predicate s at q m m' h g = took lay_predicate 6 (predicate_ends m.limit) (omega arith) (omega arith) predicate_rows s at q m m' h _ refl g
+row_took K.Step s at q m m' h g = took lay_step 4 step_ends (omega arith) (omega arith) (λ a t n. refl) s at q m m' h _ refl g
 row_took K.Pair s at q m m' h g = took lay_id 1 fact_ends (omega arith) (omega arith) (λ a t n. refl) s at q m m' h _ refl g

@@ -1,91 +1,100 @@
--- A name or a text in a message's two readings.
-use mathlib.Core.Bool.{Bool, true, false}
-use mathlib.Core.Path.{◌≡◌, refl, sym, ◌∙◌}
+-- A name or a text that was read into the memory.
+use mathlib.Core.Path.{◌≡◌, sym, ◌∙◌, ap}
 use mathlib.Core.List.{List}
-use Prim.Native.Nat.{ℕ, ◌+◌, ◌≤◌, ◌<◌}
+use Prim.Native.Nat.{ℕ, ◌+◌, ◌*◌, ◌≤◌}
+use native.Mathlib.Nat.{zero-add}
 use native.Mathlib.Omega.{arith}
 use lib.ListN.{length}
-use Rattle.varint.specs.Stores.{part}
-use Rattle.varint.specs.Texts.{skim_text, span}
-use Rattle.varint.proofs.FormatParts.{get_name_lem}
-use Rattle.varint.proofs.StoreLaws.{length_part}
-use Rattle.varint.proofs.TextLaws.{TextEnds, skim_ends, text_skims}
-use Rattle.desc.specs.Reading.{name_by}
-use Rattle.protocol.specs.Fields.{text_by}
-use Rattle.protocol.specs.Inner.Loading.{Mem, Ahead, lent_at, with_words, with_text}
-use Rattle.std.specs.Prelude.{Ok, Err}
-use Rattle.varint.specs.Got.{Got}
+use Rattle.varint.proofs.TextLaws.{TextEnds}
+use Rattle.std.specs.Prelude.{Result, Ok, Err}
+use Rattle.varint.specs.Formats.{name, text}
+use Rattle.varint.specs.Got.{Got, got}
+use Rattle.varint.specs.Texts.{get_name}
 use Rattle.varint.specs.declared.error.Refusal.{Refusal}
-use Rattle.varint.proofs.Gots.{got_of, no_got}
 use Rattle.varint.specs.declared.text.Span.{Span}
+use Rattle.varint.proofs.FormatParts.{text_got, text_inside}
+use Rattle.protocol.specs.Inner.Loading.{Mem, put, told, load, lies, Ahead}
+use Rattle.protocol.specs.Laying.{span_of}
+use Rattle.protocol.specs.Pieces.{words}
+use Rattle.protocol.proofs.Loads.{Had, had}
 
--- where a name or text that was read lies
-pub record At (s : List ℕ) (at start n q : ℕ) : Type 0 where
-  pub begins : at < start
-  pub ends : start + n ≡ q
-  pub inside : q ≤ length s
-  pub long : length (part s start n) ≡ n
+-- behind the number of its bytes, and inside
+abbrev Inside : List ℕ → ℕ → Got (List ℕ) → Type 0
+Inside s at g = (x : List ℕ) (q : ℕ) → g ≡ Ok (x, q) → (at + (length x + 1) ≤ q) × (q ≤ length s)
 
-skim_at : (s : List ℕ) (at start n q : ℕ) → skim_text s at ≡ Ok (span start n, q) → At s at start n q
-skim_at s at start n q e =
-    let h : TextEnds at (length s) (Ok (span start n, q)) = rw e at (skim_ends s at) in
-    let h₁ = h.1 in
-    let h₂ = h.2 in
-    record { begins = h.0; ends = h₁; inside = h₂; long = length_part s start n (omega arith) }
+text_within : (s : List ℕ) (at : ℕ) → Inside s at (text.read s at)
+text_within s at x q e =
+    let y = text_got s at x q e in
+    let l = y.long in
+    let i = text_inside s at y.start y.size q y.is in
+    let i₀ = i.0 in
+    let i₁ = i.1 in
+    (omega arith, i.2)
 
-pub text_at : (check : Bool) (s : List ℕ) (at start n q : ℕ) → text_by check s at ≡ Ok (span start n, q) → At s at start n q
-text_at true s at start n q e = skim_at s at start n q (text_skims s at start n q e)
-text_at false s at start n q e = skim_at s at start n q e
+name_within : (s : List ℕ) (at : ℕ) → Inside s at (name.read s at)
+unfolding get_name
+name_within s at = text_within s at
 
-pub name_at_lem : (check : Bool) (s : List ℕ) (at start n q : ℕ) → name_by check s at ≡ Ok (span start n, q) → At s at start n q
-name_at_lem true s at start n q e = skim_at s at start n q (text_skims s at start n q (sym (get_name_lem s at) ∙ e))
-name_at_lem false s at start n q e = skim_at s at start n q e
-
--- none has so many bytes that a place in text overflows
-ahead : (s : List ℕ) (at : ℕ) {t : ℕ} (g : Got Span) → ((start n q : ℕ) → g ≡ Ok (span start n, q) → At s at start n q) → t ≤ at → length s < 18446744073709551616 → Ahead t g
+pub ahead : (s : List ℕ) (at t : ℕ) (g : Got Span) → TextEnds at (length s) g → t ≤ at → Ahead t s g
 unfolding Ahead
-ahead s at (Ok (x, q)) f h k =
-    let w = f x.start x.len q refl in
-    let w₀ = w.begins in
-    let w₁ = w.ends in
-    let w₂ = w.inside in
-    omega arith
-ahead s at (Err e) f h k = tt
+ahead s at t (Ok (x, q)) e h =
+    let e₀ = e.0 in
+    let e₁ = e.1 in
+    let e₂ = e.2 in
+    (omega arith, omega arith)
+ahead s at t (Err r) e h = tt
 
-pub name_ahead : (check : Bool) (s : List ℕ) (at : ℕ) {t : ℕ} → t ≤ at → length s < 18446744073709551616 → Ahead t (name_by check s at)
-name_ahead check s at h k = ahead s at (name_by check s at) (name_at_lem check s at) h k
-
-pub text_ahead : (check : Bool) (s : List ℕ) (at : ℕ) {t : ℕ} → t ≤ at → length s < 18446744073709551616 → Ahead t (text_by check s at)
-text_ahead check s at h k = ahead s at (text_by check s at) (text_at check s at) h k
-
--- a name or a text that was read into the memory: where it lies in the bytes, and what is left
-pub record Kept (s : List ℕ) (g : Got Span) (at : ℕ) (m m' : Mem) (x : Span) (q : ℕ) : Type 0 where
-  pub start : ℕ
-  pub is : g ≡ Ok (span start x.len, q)
-  pub begins : at < start
-  pub ends : start + x.len ≡ q
+-- what was read, and where it lies now
+pub record Kept (s : List ℕ) (g : Got (List ℕ)) (at : ℕ) (m m' : Mem) (x : Span) (q : ℕ) : Type 0 where
+  pub value : List ℕ
+  pub is : g ≡ Ok (value, q)
+  pub on : at + (x.len + 1) ≤ q
   pub inside : q ≤ length s
-  pub long : length (part s start x.len) ≡ x.len
   pub place : x.start ≡ m.t
-  pub left : m' ≡ with_words (part s start x.len) x.len m
+  pub long : x.len ≡ length value
+  pub left : m' ≡ put (words value) m
 
-kept_of : (s : List ℕ) (at : ℕ) (m : Mem) {m' : Mem} {x : Span} {q : ℕ} (g : Got Span) {r : Got Span} → ((start n q : ℕ) → g ≡ Ok (span start n, q) → At s at start n q)
-    → r ≡ lent_at m.t g → m' ≡ with_text s g m → r ≡ Ok (x, q) → Kept s g at m m' x q
-kept_of s at m (Ok (y, o)) f h k e =
-    let z = got_of (sym h ∙ e) in
-    let w = f y.start y.len o refl in
-    rw (← z.0, ← z.1)
-    (record { start = y.start; is = refl; begins = w.begins; ends = w.ends; inside = w.inside; long = w.long; place = refl; left = k })
-kept_of s at m (Err r) f h k e = no_got (sym h ∙ e)
+kept_of : (s : List ℕ) {g : Got (List ℕ)} (at : ℕ) {m m' : Mem} {x : Span} {q : ℕ} → Inside s at g → Had lies words g m m' (x, q) → Kept s g at m m' x q
+kept_of s {g} at {m} {m'} {x} {q} inside w =
+    let e : ◌≡◌ {A = Span × ℕ} (x, q) (span_of m.t w.value, w.next) = w.says in
+    let a : x ≡ span_of m.t w.value = ap (λ (z : Span × ℕ). z.0) e in
+    let b : q ≡ w.next = ap (λ (z : Span × ℕ). z.1) e in
+    let l : x.len ≡ length w.value = ap (λ (z : Span). z.len) a in
+    let i = inside w.value w.next w.is in
+    let i₀ = i.0 in
+    let i₁ = i.1 in
+    record {
+      value = w.value;
+      is = w.is ∙ ap (λ (z : ℕ). got w.value z) (sym b);
+      on = omega arith;
+      inside = omega arith;
+      place = ap (λ (z : Span). z.start) a;
+      long = l;
+      left = w.left;
+    }
 
-module _ (s : List ℕ) (at : ℕ) (m : Mem) {m' : Mem} {x : Span} {q : ℕ} {r : Got Span} where
-  pub name_kept : r ≡ lent_at m.t (name_by m.check s at) → m' ≡ with_text s (name_by m.check s at) m → r ≡ Ok (x, q) → Kept s (name_by m.check s at) at m m' x q
-  name_kept h k e = kept_of s at m (name_by m.check s at) (name_at_lem m.check s at) h k e
+module _ (s : List ℕ) (at : ℕ) (m m' : Mem) (r : Result (Span × ℕ) Refusal) {x : Span} {q : ℕ} where
+  pub name_kept : told r m' ≡ load lies words (name.read s at) m → r ≡ Ok (x, q) → Kept s (name.read s at) at m m' x q
+  name_kept h i = kept_of s at (name_within s at) (had lies words (name.read s at) m m' r h i)
 
-  pub text_kept : r ≡ lent_at m.t (text_by m.check s at) → m' ≡ with_text s (text_by m.check s at) m → r ≡ Ok (x, q) → Kept s (text_by m.check s at) at m m' x q
-  text_kept h k e = kept_of s at m (text_by m.check s at) (text_at m.check s at) h k e
+  pub text_kept : told r m' ≡ load lies words (text.read s at) m → r ≡ Ok (x, q) → Kept s (text.read s at) at m m' x q
+  text_kept h i = kept_of s at (text_within s at) (had lies words (text.read s at) m m' r h i)
 
--- what was refused was not found
-pub lost : (t : ℕ) (g r : Got Span) (e : Refusal) → r ≡ lent_at t g → r ≡ Err e → g ≡ Err e
-lost t (Ok (x, q)) r e h i = no_got (sym i ∙ h)
-lost t (Err f) r e h i = sym h ∙ i
+  -- the bytes of a name pay for numbers of a row
+  pub name_leaves : told r m' ≡ load lies words (name.read s at) m → r ≡ Ok (x, q) → m.r ≤ 2 * at → (m'.r + 2 ≤ 2 * q) × (q ≤ length s)
+  name_leaves h i b =
+      let w = name_kept h i in
+      let o = w.on in
+      let e = ap (λ (y : Mem). y.r) w.left in
+      (omega arith, w.inside)
+
+-- where it is the message's first
+module _ {s : List ℕ} {g : Got (List ℕ)} {at : ℕ} {m m' : Mem} {x : Span} {q : ℕ} (w : Kept s g at m m' x q) where
+  pub kept_span : {t : ℕ} → m.t ≡ t → x ≡ span_of t w.value
+  kept_span e = λ i. record { start = (w.place ∙ e) i; len = w.long i }
+
+  pub kept_t : m'.t ≡ m.t + x.len
+  kept_t = ap (λ (y : Mem). y.t) w.left ∙ ap (λ (k : ℕ). m.t + k) (sym w.long)
+
+  pub after_text : m.t ≡ 0 → m'.t ≡ length w.value
+  after_text e = ap (λ (y : Mem). y.t) w.left ∙ ap (λ (k : ℕ). k + length w.value) e ∙ zero-add (length w.value)

@@ -6,10 +6,10 @@ use Rattle.varint.specs.Texts.{skim_text, get_text, get_name}
 use Rattle.varint.specs.Leb128.{read_from, get_u64}
 use Rattle.std.specs.Prelude.{◌≡◌, refl, Bool, true, List, [], ◌∷◌, ℕ, length, Err}
 use Rattle.varint.specs.Got.{Got}
-use Rattle.varint.specs.Formats.{Format, ◌⊗◌, named}
+use Rattle.varint.specs.Formats.{Format, name, text, ◌⊗◌, named}
 use Rattle.varint.specs.Gathering.{Held, held, then_held, name_held, text_held}
 use Rattle.varint.specs.declared.error.Mismatch.TheVariants as M
-use Rattle.protocol.specs.Fields.{name, text, control_op, flag}
+use Rattle.protocol.specs.Fields.{control_op, flag}
 use Rattle.protocol.specs.Laying.{Laid, span_of}
 use Rattle.protocol.specs.Pieces.{words, ◌⊕◌}
 use Rattle.protocol.specs.Wholes.{ended}
@@ -30,16 +30,16 @@ to_control c = record { op = c.0; database = c.1.0; allow_zero_facts = c.1.1.0; 
 abbrev pub from_control : Control → ControlOp × (List ℕ × (Bool × List ℕ))
 from_control m = (m.op, (m.database, (m.allow_zero_facts, m.schema)))
 
-abbrev pub control : Bool → Format Control
-control check =
+abbrev pub control : Format Control
+control =
     named to_control from_control
     (control_op
-    ⊗ name check
+    ⊗ name
     ⊗ flag M.ControlFlag
-    ⊗ text check)
+    ⊗ text)
 
-unfoldable pub read_control : Bool → List ℕ → Got Control
-read_control check s = ended s ((control check).read s 0)
+unfoldable pub read_control : List ℕ → Got Control
+read_control s = ended s (control.read s 0)
 
 unfoldable pub lay_control : Control → Laid
 lay_control m =
@@ -55,7 +55,7 @@ held_control op database allow schema tx =
     (λ x. held (record { op = op; database = d; allow_zero_facts = allow; schema = x })))
 
 -- the flag is missing
-example_flag : read_control true (2 ∷ 1 ∷ 0x61 ∷ []) ≡ Err (TypeMismatch M.ControlFlag)
+example_flag : read_control (2 ∷ 1 ∷ 0x61 ∷ []) ≡ Err (TypeMismatch M.ControlFlag)
 unfolding read_control get_u64 read_from get_name get_text skim_text utf8 scan lead part
 example_flag = refl
 

@@ -1,15 +1,13 @@
 -- Decoding: a payload is read, laid out, and stored where it fits.
-use Rattle.std.specs.Prelude.{true, ◌≡◌, refl, List, [], ◌∷◌, ℕ, ltb, length, Ok, Err, Result}
-use Rattle.varint.specs.Choice.{pick}
-use Rattle.varint.specs.Got.{Got}
+use Rattle.std.specs.Prelude.{true, ◌≡◌, refl, List, [], ◌∷◌, ℕ, Ok}
 use Rattle.varint.specs.Formats.{read_times}
 use Rattle.varint.specs.Leb128.{read_from, get_u64}
+use Rattle.varint.specs.Lent.{Left, kept, Taken, fitted, settled}
 use Rattle.varint.specs.Stores.{part, filled}
 use Rattle.varint.specs.Texts.{skim_text, get_text, get_name}
 use Rattle.varint.specs.Utf8.{utf8, scan, lead}
 use Rattle.varint.specs.declared.error.Buffer.TheVariants.{Text, Rows, Nodes}
 use Rattle.varint.specs.declared.error.Mismatch.TheVariants as M
-use Rattle.varint.specs.declared.error.Refusal.{Refusal}
 use Rattle.varint.specs.declared.error.Refusal.TheVariants.{TooSmall, TypeMismatch}
 use Rattle.desc.specs.Layout.{texts, placed, nodes_of}
 use Rattle.desc.specs.Reading.{head_at, desc}
@@ -19,46 +17,18 @@ use Rattle.protocol.specs.Pieces.{many}
 use Rattle.protocol.specs.Profile.{read_profile, lay_profile}
 use Rattle.protocol.specs.Control.{read_control, lay_control}
 use Rattle.protocol.specs.Types.{read_types, lay_types}
-use Rattle.protocol.specs.Said.{Said, read_entry, read_message, lay}
+use Rattle.protocol.specs.Said.{read_entry, read_message, lay}
 use Rattle.protocol.specs.declared.message.ControlOp.TheVariants.{Finish}
 use Rattle.protocol.specs.declared.message.Message.TheVariants as Msg
 use Rattle.protocol.specs.declared.message.Message.{Message}
 
--- an answer, and what was lent
-pub record Left : Type 0 where
-  pub answer : Result Message Refusal
-  pub text : List ℕ
-  pub rows : List ℕ
-  pub nodes : List ℕ
-
--- "Refused: nothing written."
-abbrev pub kept : Refusal → List ℕ → List ℕ → List ℕ → Left
-kept e tx rs nd = record { answer = Err e; text = tx; rows = rs; nodes = nd }
-
--- "last 16 for text, rows, nodes in that order, exactly when the read message needs more than was lent". "Accepted: text holds the message's
--- texts joined in reading order, rows and nodes hold its rows, and all three are zero from there to their ends".
-unfoldable pub fitted : Laid → List ℕ → List ℕ → List ℕ → Left
-fitted l tx rs nd =
-    pick (ltb (length tx) (length l.piece.text))
-    (kept (TooSmall Text (length l.piece.text)) tx rs nd)
-    (pick (ltb (length rs) (length (l.piece.rows 0 0)))
-    (kept (TooSmall Rows (length (l.piece.rows 0 0))) tx rs nd)
-    (pick (ltb (length nd) (length (l.piece.nodes 0 0)))
-    (kept (TooSmall Nodes (length (l.piece.nodes 0 0))) tx rs nd)
-    (record {
-      answer = Ok l.message;
-      text = filled tx l.piece.text;
-      rows = filled rs (l.piece.rows 0 0);
-      nodes = filled nd (l.piece.nodes 0 0);
-    })))
-
-unfoldable pub settled : Got Said → List ℕ → List ℕ → List ℕ → Left
-settled (Ok (m, q)) tx rs nd = fitted (lay m) tx rs nd
-settled (Err e) tx rs nd = kept e tx rs nd
+-- what a message puts into the memory
+abbrev pub taken_by : Laid → Taken
+taken_by l = record { text = l.piece.text; rows = l.piece.rows 0 0; nodes = l.piece.nodes 0 0 }
 
 -- Message `entry` of a payload: the longest payload and the depth of descriptors are parameters.
-unfoldable pub decode_message : (max limit : ℕ) → ℕ → List ℕ → List ℕ → List ℕ → List ℕ → Left
-decode_message max limit entry s tx rs nd = settled (read_message true max limit entry s) tx rs nd
+unfoldable pub decode_message : (max limit : ℕ) → ℕ → List ℕ → List ℕ → List ℕ → List ℕ → Left Message
+decode_message max limit entry s tx rs nd = settled (λ v q. (lay v).message) (λ v. taken_by (lay v)) (read_message max limit entry s) tx rs nd
 
 -- control `02 01 61 07 00`, into buffers that were dirty
 example_control : decode_message 67108864 64 7 (0x02 ∷ 0x01 ∷ 0x61 ∷ 0x07 ∷ 0x00 ∷ []) (9 ∷ 9 ∷ []) (9 ∷ []) []

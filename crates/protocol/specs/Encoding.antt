@@ -1,8 +1,8 @@
 -- Encoding: a message is taken out of lent memory, printed, and written where it fits.
 use Rattle.std.specs.Prelude.{true, ◌≡◌, refl, List, [], ◌∷◌, ℕ, replicate, Ok, Err, None}
-use Rattle.varint.specs.Gathering.{Held, held, lacks, then_held, text_held, name_held}
+use Rattle.varint.specs.Gathering.{Held, held, then_held, text_held, name_held}
 use Rattle.varint.specs.Leb128.{put_by, put_u64}
-use Rattle.varint.specs.Outs.{Sent, wrote, send}
+use Rattle.varint.specs.Outs.{Sent, wrote, send, sent}
 use Rattle.varint.specs.Stores.{part, filled}
 use Rattle.varint.specs.Utf8.{utf8, scan, lead}
 use Rattle.varint.specs.declared.error.Buffer.TheVariants.{Out}
@@ -45,12 +45,9 @@ held_said limit (Msg.Fetch digest count) tx rs nd = held_as said_fetch (held_fet
 held_said limit (Msg.ListingDigest predicate digest) tx rs nd = held (said_listing (record { predicate = predicate; digest = digest }))
 held_said limit (Msg.Opaque payload) tx rs nd = held_as opaque (raw_held tx payload.start payload.len)
 
-unfoldable pub sent : ℕ → Held Said → List ℕ → Sent
-sent max (held m) d = send max (print_said m) d
-sent max (lacks e) d = record { answer = Err e; out = d }
-
+-- what the memory holds, printed into the buffer: the longest payload and the depth of descriptors are parameters
 unfoldable pub encode_message : (max limit : ℕ) → Message → List ℕ → List ℕ → List ℕ → List ℕ → Sent
-encode_message max limit message tx rs nd d = sent max (held_said limit message tx rs nd) d
+encode_message max limit message tx rs nd d = sent max print_said (held_said limit message tx rs nd) d
 
 -- a schema that stands before the database's name in text
 example_control : encode_message 67108864 64 (Msg.Control Finish (record { start = 1; len = 1 }) true (record { start = 0; len = 1 })) (0x62 ∷ 0x61 ∷ []) [] [] (9 ∷ 9 ∷ 9 ∷ 9 ∷ 9 ∷ 9 ∷ 9 ∷ [])

@@ -3,38 +3,18 @@ use Rattle.std.specs.Prelude.{Bool, true, false, not, ◌≡◌, refl, List, [],
 use Rattle.varint.specs.Choice.{pick}
 use Rattle.varint.specs.Fixed.{put_le}
 use Rattle.varint.specs.Got.{Got, then}
-use Rattle.varint.specs.Formats.{Format, got_text, print_text, varint, fixed, named, read_times, print_all}
+use Rattle.varint.specs.Formats.{Format, varint, fixed, named, read_times, print_all}
 use Rattle.varint.specs.Leb128.{read_from, get_u64, put_u64}
 use Rattle.varint.specs.Stores.{part}
-use Rattle.varint.specs.Texts.{skim_text, get_text}
 use Rattle.varint.specs.Utf8.{utf8}
 use Rattle.varint.specs.declared.error.Mismatch.{Mismatch}
 use Rattle.varint.specs.declared.error.Mismatch.TheVariants as M
 use Rattle.varint.specs.declared.error.Refusal.{Refusal}
 use Rattle.varint.specs.declared.error.Refusal.TheVariants.{UnexpectedEof, BadString, TypeMismatch, LengthOutOfRange}
-use Rattle.desc.specs.Printing.{print}
-use Rattle.desc.specs.Reading.{name_by, desc}
-use Rattle.desc.specs.Trees.{Tree}
 use Rattle.protocol.specs.Codes.{mode_of, mode_byte, error_of, error_byte, op_of, op_byte}
 use Rattle.protocol.specs.declared.message.Mode.{Mode}
 use Rattle.protocol.specs.declared.message.ErrorCode.{ErrorCode}
 use Rattle.protocol.specs.declared.message.ControlOp.{ControlOp}
-use Rattle.varint.specs.declared.text.Span.{Span}
-
--- Names and free texts are checked in a message's first reading; the second only finds them again.
-abbrev pub text_by : Bool → List ℕ → ℕ → Got Span
-text_by true s at = get_text s at
-text_by false s at = skim_text s at
-
-abbrev pub name : Bool → Format (List ℕ)
-name check = record { read = λ s at. got_text s (name_by check s at); print = print_text }
-
-abbrev pub text : Bool → Format (List ℕ)
-text check = record { read = λ s at. got_text s (text_by check s at); print = print_text }
-
--- a descriptor of at most `limit` levels
-abbrev pub descriptor : Bool → ℕ → Format (Tree (List ℕ))
-descriptor check limit = record { read = desc check limit limit; print = print }
 
 -- what was read is refused where it is not good
 abbrev pub provided : {A : Type 0} → (A → Bool) → (A → Refusal) → Format A → Format A
@@ -113,12 +93,8 @@ raw =
     }
 
 -- a text that goes to the end of the bytes
-abbrev pub to_end : Bool → Format (List ℕ)
-to_end check =
-    record {
-      read = λ s at. pick check (pick (utf8 (drop at s)) (Ok (drop at s, length s)) (Err BadString)) (Ok (drop at s, length s));
-      print = λ x. x;
-    }
+abbrev pub to_end : Format (List ℕ)
+to_end = record { read = λ s at. pick (utf8 (drop at s)) (Ok (drop at s, length s)) (Err BadString); print = λ x. x }
 
 -- 7 is yes, and written as 1
 example_flag : (flag M.ControlFlag).read (7 ∷ []) 0 ≡ Ok (true, 1)

@@ -1,7 +1,7 @@
 -- 10 page: "limit in 8 bytes, cursor length in 4, little-endian, cursor, then query; short is 1".
 use Rattle.varint.specs.Utf8.{utf8, scan, lead}
 use Rattle.varint.specs.Fixed.{le, get_le}
-use Rattle.std.specs.Prelude.{◌≡◌, refl, Bool, true, List, [], ◌∷◌, ℕ, ◌+◌, ltb, length, Ok, Err}
+use Rattle.std.specs.Prelude.{◌≡◌, refl, List, [], ◌∷◌, ℕ, ◌+◌, ltb, length, Ok, Err}
 use Rattle.varint.specs.Choice.{pick}
 use Rattle.varint.specs.Got.{Got}
 use Rattle.varint.specs.Formats.{Format, fixed, ◌⊗◌, named}
@@ -26,15 +26,15 @@ to_page c = record { limit = c.0; cursor = c.1.0; query = c.1.1 }
 abbrev pub from_page : Page → ℕ × (List ℕ × List ℕ)
 from_page m = (m.limit, (m.cursor, m.query))
 
-abbrev pub page : Bool → Format Page
-page check =
+abbrev pub page : Format Page
+page =
     named to_page from_page
     (fixed 8
     ⊗ raw
-    ⊗ to_end check)
+    ⊗ to_end)
 
-unfoldable pub read_page : Bool → List ℕ → Got Page
-read_page check s = (page check).read s 0
+unfoldable pub read_page : List ℕ → Got Page
+read_page s = page.read s 0
 
 unfoldable pub lay_page : Page → Laid
 lay_page m =
@@ -53,16 +53,16 @@ held_page limit cursor query tx =
     (λ c. then_held (text_held tx query.start query.len) (λ x. held (record { limit = limit; cursor = c; query = x })))
 
 -- limit 5, a cursor that is no text, and the query "q"
-example_read : read_page true (5 ∷ 0 ∷ 0 ∷ 0 ∷ 0 ∷ 0 ∷ 0 ∷ 0 ∷ 1 ∷ 0 ∷ 0 ∷ 0 ∷ 0xFF ∷ 0x71 ∷ []) ≡ Ok (record { limit = 5; cursor = 0xFF ∷ []; query = 0x71 ∷ [] }, 14)
+example_read : read_page (5 ∷ 0 ∷ 0 ∷ 0 ∷ 0 ∷ 0 ∷ 0 ∷ 0 ∷ 1 ∷ 0 ∷ 0 ∷ 0 ∷ 0xFF ∷ 0x71 ∷ []) ≡ Ok (record { limit = 5; cursor = 0xFF ∷ []; query = 0x71 ∷ [] }, 14)
 unfolding read_page get_le le part utf8 scan lead
 example_read = refl
 
-example_short : read_page true (5 ∷ 0 ∷ 0 ∷ 0 ∷ 0 ∷ 0 ∷ 0 ∷ 0 ∷ 2 ∷ 0 ∷ 0 ∷ 0 ∷ 0xFF ∷ []) ≡ Err UnexpectedEof
+example_short : read_page (5 ∷ 0 ∷ 0 ∷ 0 ∷ 0 ∷ 0 ∷ 0 ∷ 0 ∷ 2 ∷ 0 ∷ 0 ∷ 0 ∷ 0xFF ∷ []) ≡ Err UnexpectedEof
 unfolding read_page get_le le part
 example_short = refl
 
 -- a query must be one
-example_query : read_page true (5 ∷ 0 ∷ 0 ∷ 0 ∷ 0 ∷ 0 ∷ 0 ∷ 0 ∷ 0 ∷ 0 ∷ 0 ∷ 0 ∷ 0xFF ∷ []) ≡ Err BadString
+example_query : read_page (5 ∷ 0 ∷ 0 ∷ 0 ∷ 0 ∷ 0 ∷ 0 ∷ 0 ∷ 0 ∷ 0 ∷ 0 ∷ 0 ∷ 0xFF ∷ []) ≡ Err BadString
 unfolding read_page get_le le part utf8 scan lead
 example_query = refl
 

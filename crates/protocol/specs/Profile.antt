@@ -5,11 +5,11 @@ use Rattle.varint.specs.Texts.{skim_text, get_text, get_name}
 use Rattle.varint.specs.Leb128.{read_from, get_u64}
 use Rattle.std.specs.Prelude.{◌≡◌, refl, Bool, true, false, List, [], ◌∷◌, ℕ, ◌+◌, leb, length, get_or, Ok, Err}
 use Rattle.varint.specs.Got.{Got}
-use Rattle.varint.specs.Formats.{Format, varint, ◌⊗◌, named, read_times}
+use Rattle.varint.specs.Formats.{Format, varint, name, ◌⊗◌, named, read_times}
 use Rattle.varint.specs.Gathering.{Held, held, then_held, text_held, name_held}
 use Rattle.varint.specs.declared.error.Mismatch.TheVariants as M
 use Rattle.varint.specs.declared.error.Refusal.TheVariants.{LengthOutOfRange}
-use Rattle.protocol.specs.Fields.{name, flag, bit, yes, counted_to}
+use Rattle.protocol.specs.Fields.{flag, bit, yes, counted_to}
 use Rattle.protocol.specs.Laying.{Laid}
 use Rattle.protocol.specs.Pieces.{Piece, words, cells, ◌⊕◌, many}
 use Rattle.protocol.specs.RowsHeld.{enough, held_times, all_good, numbers_good}
@@ -27,18 +27,18 @@ to_step c = record { label = c.0; examined = c.1.0; full_scan = c.1.1 }
 abbrev pub from_step : Step → List ℕ × (ℕ × Bool)
 from_step m = (m.label, (m.examined, m.full_scan))
 
-abbrev pub step : Bool → Format Step
-step check =
+abbrev pub step : Format Step
+step =
     named to_step from_step
-    (name check
+    (name
     ⊗ varint
     ⊗ flag M.FullScan)
 
-abbrev pub profile : Bool → Format (List Step)
-profile check = counted_to length LengthOutOfRange (step check)
+abbrev pub profile : Format (List Step)
+profile = counted_to length LengthOutOfRange step
 
-unfoldable pub read_profile : Bool → List ℕ → Got (List Step)
-read_profile check s = ended s ((profile check).read s 0)
+unfoldable pub read_profile : List ℕ → Got (List Step)
+read_profile s = ended s (profile.read s 0)
 
 -- "step (label start, label length, examined, full scan 0 or 1)"
 abbrev pub step_width : ℕ
@@ -63,12 +63,12 @@ unfoldable pub held_profile : ℕ → List ℕ → List ℕ → Held (List Step)
 held_profile count tx rs =
     enough step_width count rs (numbers_good (all_good (step_numbers rs) step_width count 0) (held_times (held_step tx rs) step_width count 0))
 
-example_read : read_profile true (1 ∷ 1 ∷ 0x61 ∷ 9 ∷ 0 ∷ []) ≡ Ok ((record { label = 0x61 ∷ []; examined = 9; full_scan = false } ∷ []), 5)
+example_read : read_profile (1 ∷ 1 ∷ 0x61 ∷ 9 ∷ 0 ∷ []) ≡ Ok ((record { label = 0x61 ∷ []; examined = 9; full_scan = false } ∷ []), 5)
 unfolding read_profile read_times get_u64 read_from get_name get_text skim_text utf8 scan lead part
 example_read = refl
 
 -- three steps are declared, and the whole payload has two bytes
-example_count : read_profile true (3 ∷ 0 ∷ []) ≡ Err (LengthOutOfRange 3 2)
+example_count : read_profile (3 ∷ 0 ∷ []) ≡ Err (LengthOutOfRange 3 2)
 unfolding read_profile get_u64 read_from
 example_count = refl
 

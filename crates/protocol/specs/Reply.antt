@@ -7,10 +7,10 @@ use Rattle.varint.specs.Texts.{skim_text, get_text, get_name}
 use Rattle.varint.specs.Leb128.{read_from, get_u64}
 use Rattle.std.specs.Prelude.{◌≡◌, refl, Bool, true, List, ◌++◌, [], ◌∷◌, ℕ, Ok, Err}
 use Rattle.varint.specs.Got.{Got, then}
-use Rattle.varint.specs.Formats.{Format, varint, ◌⊗◌, named}
+use Rattle.varint.specs.Formats.{Format, varint, name, ◌⊗◌, named}
 use Rattle.varint.specs.Gathering.{Held, held, lacks, then_held, text_held, name_held}
 use Rattle.varint.specs.declared.error.Mismatch.TheVariants as M
-use Rattle.protocol.specs.Fields.{name, control_op, flag}
+use Rattle.protocol.specs.Fields.{control_op, flag}
 use Rattle.protocol.specs.Laying.{Laid, span_of}
 use Rattle.protocol.specs.Pieces.{none, words}
 use Rattle.protocol.specs.Wholes.{ended}
@@ -46,21 +46,21 @@ finish =
     ⊗ flag M.AlreadyComplete)
 
 -- what follows the op
-abbrev pub reply_on : Bool → ControlOp → List ℕ → ℕ → Got Reply
-reply_on check Create s at = then ((name check).read s at) (λ i q. Ok (created i, q))
-reply_on check Finish s at = then (finish.read s at) (λ f q. Ok (finished f, q))
-reply_on check Remove s at = Ok (removed, at)
+abbrev pub reply_on : ControlOp → List ℕ → ℕ → Got Reply
+reply_on Create s at = then (name.read s at) (λ i q. Ok (created i, q))
+reply_on Finish s at = then (finish.read s at) (λ f q. Ok (finished f, q))
+reply_on Remove s at = Ok (removed, at)
 
 abbrev pub print_reply : Reply → List ℕ
-print_reply (created i) = control_op.print Create ++ (name true).print i
+print_reply (created i) = control_op.print Create ++ name.print i
 print_reply (finished f) = control_op.print Finish ++ finish.print f
 print_reply removed = control_op.print Remove
 
-abbrev pub reply : Bool → Format Reply
-reply check = record { read = λ s at. then (control_op.read s at) (λ o p. reply_on check o s p); print = print_reply }
+abbrev pub reply : Format Reply
+reply = record { read = λ s at. then (control_op.read s at) (λ o p. reply_on o s p); print = print_reply }
 
-unfoldable pub read_reply : Bool → List ℕ → Got Reply
-read_reply check s = ended s ((reply check).read s 0)
+unfoldable pub read_reply : List ℕ → Got Reply
+read_reply s = ended s (reply.read s 0)
 
 unfoldable pub lay_reply : Reply → Laid
 lay_reply (created i) = record { message = Msg.Reply (R.Created (span_of 0 i)); piece = words i }
@@ -73,16 +73,16 @@ held_reply (R.Finished fingerprint facts bytes complete) tx =
     held (finished (record { fingerprint = fingerprint; facts = facts; bytes = bytes; already_complete = complete }))
 held_reply R.Removed tx = held removed
 
-example_created : read_reply true (1 ∷ 1 ∷ 0x61 ∷ []) ≡ Ok (created (0x61 ∷ []), 3)
+example_created : read_reply (1 ∷ 1 ∷ 0x61 ∷ []) ≡ Ok (created (0x61 ∷ []), 3)
 unfolding read_reply get_u64 read_from get_name get_text skim_text utf8 scan lead part
 example_created = refl
 
 -- a flag of 7 is yes
-example_finished : read_reply true (2 ∷ 4 ∷ 5 ∷ 6 ∷ 7 ∷ []) ≡ Ok (finished (record { fingerprint = 4; facts = 5; bytes = 6; already_complete = true }), 5)
+example_finished : read_reply (2 ∷ 4 ∷ 5 ∷ 6 ∷ 7 ∷ []) ≡ Ok (finished (record { fingerprint = 4; facts = 5; bytes = 6; already_complete = true }), 5)
 unfolding read_reply get_u64 read_from
 example_finished = refl
 
-example_removed : read_reply true (3 ∷ 0 ∷ []) ≡ Err (TrailingBytes 1)
+example_removed : read_reply (3 ∷ 0 ∷ []) ≡ Err (TrailingBytes 1)
 unfolding read_reply
 example_removed = refl
 

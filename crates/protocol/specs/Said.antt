@@ -1,5 +1,5 @@
 -- What is said by a message of each number, read from a payload, printed, and laid out for lent memory.
-use Rattle.std.specs.Prelude.{Bool, true, ◌&&◌, List, ℕ, ltb, leb, eqb, length, Ok, Err}
+use Rattle.std.specs.Prelude.{◌&&◌, List, ℕ, ltb, leb, eqb, length, Ok, Err}
 use Rattle.varint.specs.Choice.{pick}
 use Rattle.varint.specs.Got.{Got, then}
 use Rattle.varint.specs.Formats.{counted}
@@ -39,39 +39,39 @@ abbrev pub saying : {A : Type 0} → (A → Said) → Got A → Got Said
 saying to g = then g (λ a q. Ok (to a, q))
 
 -- Message `entry` of a payload. "An entry 1 to 12 names a message; any other is opaque: its payload, not checked for UTF-8, is the one text".
-unfoldable pub read_entry : Bool → ℕ → ℕ → List ℕ → Got Said
-read_entry check limit entry s =
-    pick (eqb entry 1) (saying said_startup (read_startup check s))
+unfoldable pub read_entry : ℕ → ℕ → List ℕ → Got Said
+read_entry limit entry s =
+    pick (eqb entry 1) (saying said_startup (read_startup s))
     (pick (eqb entry 2) (saying said_ready (read_ready s))
-    (pick (eqb entry 3) (saying said_error (read_error check s))
+    (pick (eqb entry 3) (saying said_error (read_error s))
     (pick (eqb entry 4) (saying said_complete (read_complete s))
     (pick (eqb entry 5) (saying said_ids (read_ids s))
-    (pick (eqb entry 6) (saying said_types (read_types check limit s))
-    (pick (eqb entry 7) (saying said_control (read_control check s))
-    (pick (eqb entry 8) (saying said_reply (read_reply check s))
-    (pick (eqb entry 9) (saying said_profile (read_profile check s))
-    (pick (eqb entry 10) (saying said_page (read_page check s))
+    (pick (eqb entry 6) (saying said_types (read_types limit s))
+    (pick (eqb entry 7) (saying said_control (read_control s))
+    (pick (eqb entry 8) (saying said_reply (read_reply s))
+    (pick (eqb entry 9) (saying said_profile (read_profile s))
+    (pick (eqb entry 10) (saying said_page (read_page s))
     (pick (eqb entry 11) (saying said_fetch (read_fetch s))
     (pick (eqb entry 12) (saying said_listing (read_listing s))
     (Ok (opaque s, length s)))))))))))))
 
 -- "Every message decoder: first 12 for a payload over 67,108,864 bytes"; an opaque payload has no such refusal
-unfoldable pub read_message : Bool → (max limit : ℕ) → ℕ → List ℕ → Got Said
-read_message check max limit entry s =
-    pick (ltb 0 entry && leb entry 12 && ltb max (length s)) (Err (BlockTooLarge (length s) max)) (read_entry check limit entry s)
+unfoldable pub read_message : (max limit : ℕ) → ℕ → List ℕ → Got Said
+read_message max limit entry s =
+    pick (ltb 0 entry && leb entry 12 && ltb max (length s)) (Err (BlockTooLarge (length s) max)) (read_entry limit entry s)
 
 -- the bytes; how deep descriptors may nest is no matter of printing
 unfoldable pub print_said : Said → List ℕ
-print_said (said_startup m) = (startup true).print m
+print_said (said_startup m) = startup.print m
 print_said (said_ready m) = ready.print m
-print_said (said_error m) = (error true).print m
+print_said (said_error m) = error.print m
 print_said (said_complete m) = complete.print m
 print_said (said_ids m) = ids.print m
-print_said (said_types m) = (counted (predicate true 0)).print m
-print_said (said_control m) = (control true).print m
+print_said (said_types m) = (counted (predicate 0)).print m
+print_said (said_control m) = control.print m
 print_said (said_reply m) = print_reply m
-print_said (said_profile m) = (profile true).print m
-print_said (said_page m) = (page true).print m
+print_said (said_profile m) = profile.print m
+print_said (said_page m) = page.print m
 print_said (said_fetch m) = fetch.print m
 print_said (said_listing m) = listing.print m
 print_said (opaque s) = s

@@ -4,11 +4,11 @@ use Rattle.varint.specs.Stores.{part}
 use Rattle.varint.specs.Utf8.{utf8, scan, lead}
 use Rattle.varint.specs.Texts.{skim_text, get_text, get_name}
 use Rattle.varint.specs.Leb128.{read_from, get_u64, put_by, put_u64}
-use Rattle.std.specs.Prelude.{◌≡◌, refl, Bool, true, List, [], ◌∷◌, ℕ, ◌+◌, length, get_or, Ok}
+use Rattle.std.specs.Prelude.{◌≡◌, refl, List, [], ◌∷◌, ℕ, ◌+◌, length, get_or, Ok}
 use Rattle.varint.specs.Got.{Got}
-use Rattle.varint.specs.Formats.{Format, varint, ◌⊗◌, named, counted, read_times, print_all}
+use Rattle.varint.specs.Formats.{Format, varint, name, ◌⊗◌, named, counted, read_times, print_all}
 use Rattle.varint.specs.Gathering.{Held, held, then_held, name_held, text_held}
-use Rattle.protocol.specs.Fields.{name, mode}
+use Rattle.protocol.specs.Fields.{mode}
 use Rattle.protocol.specs.Laying.{Laid, span_of}
 use Rattle.protocol.specs.Pieces.{Piece, words, cells, ◌⊕◌, many}
 use Rattle.protocol.specs.RowsHeld.{enough, held_times}
@@ -45,20 +45,20 @@ abbrev pub from_startup : Startup → ℕ × (List ℕ × (Mode × (ℕ × List 
 from_startup m = (m.version, (m.database, (m.mode, (m.fingerprint, m.claims))))
 
 -- the bytes
-abbrev pub claim : Bool → Format Claim
-claim check = named to_claim from_claim (name check ⊗ varint)
+abbrev pub claim : Format Claim
+claim = named to_claim from_claim (name ⊗ varint)
 
-abbrev pub startup : Bool → Format Startup
-startup check =
+abbrev pub startup : Format Startup
+startup =
     named to_startup from_startup
     (varint
-    ⊗ name check
+    ⊗ name
     ⊗ mode
     ⊗ varint
-    ⊗ counted (claim check))
+    ⊗ counted claim)
 
-unfoldable pub read_startup : Bool → List ℕ → Got Startup
-read_startup check s = versioned (λ m. m.version) (ended s ((startup check).read s 0))
+unfoldable pub read_startup : List ℕ → Got Startup
+read_startup s = versioned (λ m. m.version) (ended s (startup.read s 0))
 
 -- the memory: "claim (name start, name length, fingerprint)"
 abbrev pub claim_width : ℕ
@@ -89,11 +89,11 @@ held_startup version database mode fingerprint count tx rs =
 abbrev sample : Startup
 sample = record { version = spoken_version; database = 0x64 ∷ []; mode = ReadWrite; fingerprint = 7; claims = record { name = 0x61 ∷ []; fingerprint = 5 } ∷ [] }
 
-example_read : read_startup true (4 ∷ 1 ∷ 0x64 ∷ 1 ∷ 7 ∷ 1 ∷ 1 ∷ 0x61 ∷ 5 ∷ []) ≡ Ok (sample, 9)
+example_read : read_startup (4 ∷ 1 ∷ 0x64 ∷ 1 ∷ 7 ∷ 1 ∷ 1 ∷ 0x61 ∷ 5 ∷ []) ≡ Ok (sample, 9)
 unfolding read_startup read_times get_u64 read_from get_name get_text skim_text utf8 scan lead part
 example_read = refl
 
-example_printed : (startup true).print sample ≡ 4 ∷ 1 ∷ 0x64 ∷ 1 ∷ 7 ∷ 1 ∷ 1 ∷ 0x61 ∷ 5 ∷ []
+example_printed : startup.print sample ≡ 4 ∷ 1 ∷ 0x64 ∷ 1 ∷ 7 ∷ 1 ∷ 1 ∷ 0x61 ∷ 5 ∷ []
 unfolding print_all put_u64 put_by
 example_printed = refl
 

@@ -7,7 +7,7 @@ use Rattle.varint.specs.Leb128.{read_from, get_u64}
 use Rattle.std.specs.Prelude.{◌≡◌, refl, Bool, true, false, ◌&&◌, List, [], ◌∷◌, ℕ, zero, suc, ◌+◌, leb, eqb, length, get_or, Ok, Err}
 use Rattle.varint.specs.Choice.{pick}
 use Rattle.varint.specs.Got.{Got}
-use Rattle.varint.specs.Formats.{Format, varint, ◌⊗◌, named, counted, read_times}
+use Rattle.varint.specs.Formats.{Format, varint, name, ◌⊗◌, named, counted, read_times}
 use Rattle.varint.specs.Gathering.{Held, held, lacks, then_held, name_held, text_held}
 use Rattle.varint.specs.declared.error.Fault.TheVariants.{Layout}
 use Rattle.varint.specs.declared.error.Refusal.TheVariants.{UnknownPredicate, BadMessage}
@@ -15,7 +15,8 @@ use Rattle.desc.specs.Encoding.{held_in}
 use Rattle.desc.specs.Layout.{end_at, texts, placed, nodes_of}
 use Rattle.desc.specs.Table.{cell, table, root_name, discriminant_fits, predicate_fits, is_branch, leaf_fits, node_fits, gather}
 use Rattle.desc.specs.Trees.{Tree, leaf, size}
-use Rattle.protocol.specs.Fields.{provided, narrow, name, wide_flag, bit, yes, descriptor, Optional, absent, present, optional}
+use Rattle.desc.specs.WellFormed.{descriptor}
+use Rattle.protocol.specs.Fields.{provided, narrow, wide_flag, bit, yes, Optional, absent, present, optional}
 use Rattle.protocol.specs.Laying.{Laid}
 use Rattle.protocol.specs.Pieces.{Piece, none, words, cells, tree, ◌⊕◌, many}
 use Rattle.protocol.specs.RowsHeld.{enough, held_times, all_good, numbers_good}
@@ -35,17 +36,17 @@ abbrev pub from_predicate : Predicate → ℕ × (List ℕ × (Bool × (Tree (Li
 from_predicate p = (p.id, (p.name, (p.virtual, (p.key, p.value))))
 
 -- the bytes; descriptors nest at most `limit` deep
-abbrev pub predicate : Bool → ℕ → Format Predicate
-predicate check limit =
+abbrev pub predicate : ℕ → Format Predicate
+predicate limit =
     named to_predicate from_predicate
     (provided narrow (λ _. UnknownPredicate) varint
-    ⊗ name check
+    ⊗ name
     ⊗ wide_flag
-    ⊗ descriptor check limit
-    ⊗ optional (descriptor check limit))
+    ⊗ descriptor limit
+    ⊗ optional (descriptor limit))
 
-unfoldable pub read_types : Bool → ℕ → List ℕ → Got (List Predicate)
-read_types check limit s = (counted (predicate check limit)).read s 0
+unfoldable pub read_types : ℕ → List ℕ → Got (List Predicate)
+read_types limit s = (counted (predicate limit)).read s 0
 
 -- the memory: "type (id, name start, name length, virtual 0 or 1, has value 0 or 1, key's node)", "a type's value after its key"
 abbrev pub type_width : ℕ
@@ -109,7 +110,7 @@ held_types limit count tx rs nd =
 abbrev sample : Predicate
 sample = record { id = 3; name = 0x70 ∷ []; virtual = false; key = leaf 0 0; value = present (leaf 1 0) }
 
-example_read : read_types true 64 (1 ∷ 3 ∷ 1 ∷ 0x70 ∷ 0 ∷ 0 ∷ 1 ∷ 1 ∷ 0xFF ∷ []) ≡ Ok (sample ∷ [], 8)
+example_read : read_types 64 (1 ∷ 3 ∷ 1 ∷ 0x70 ∷ 0 ∷ 0 ∷ 1 ∷ 1 ∷ 0xFF ∷ []) ≡ Ok (sample ∷ [], 8)
 unfolding read_types read_times desc children head_at label_at get_u64 read_from get_name get_text skim_text utf8 scan lead part
 example_read = refl
 

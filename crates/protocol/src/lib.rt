@@ -1,11 +1,12 @@
 // The session messages of fjord (protocol.rs): what a frame's payload means, read into lent memory.
 //
 // A message is read twice: once to see whether it is one and how much memory it takes, and once to store it. Both are one function, which is
-// lent no memory the first time. UTF-8 is checked in the first reading only. A message that takes no memory is read once.
+// lent no memory the first time. UTF-8 is checked in the first reading only: the second asks that the same was accepted before (`Again`).
+// A message that takes no memory is read once.
 //
 // What reads is lent one `Memory`, which `read_into` makes. Else text, rows and nodes stand side by side here, as a caller lends them: each is asked how
 // long it is, and cleared, so that a struct of them would be taken apart in every function. That an entry is none of the three without memory is asked by
-// two of them and by the reader (`RoomyEntry`): an enum of the nine would be a second list of the messages.
+// `decode_fitting`, `read_into` and `read_message` (`RoomyEntry`): an enum of the nine would be a second list of the messages.
 #![tactic(auto)]
 
 pub mod entry;
@@ -18,6 +19,7 @@ mod rows;
 ghost use Rattle.std.specs.Prelude.{◌≡◌, ℕ, ◌≤◌, ◌<◌, length};
 ghost use Rattle.protocol.specs.Decoding.{decode_message};
 ghost use Rattle.varint.specs.Stores.{clear_from};
+ghost use Rattle.varint.specs.Inner.Again.{Again};
 ghost use Rattle.protocol.specs.Entries.{entry_number};
 ghost use Rattle.protocol.specs.Inner.Loading.{Opaque, RoomyEntry, bare_left, laid_as, room, ReadsWhole};
 ghost use Rattle.protocol.specs.Said.{read_entry, lay};
@@ -95,8 +97,10 @@ fn read_into(
     rows: &mut [u64],
     nodes: &mut [u64],
 ) -> Result<(Message, usize, usize, usize), Refusal>
-    requires { RoomyEntry (entry_number entry) × (length payload.now ≤ 4294967296) }
-    ensures { ReadsWhole check (laid_as lay (read_entry check limit (entry_number entry) payload.now)) text.old rows.old nodes.old result text.new rows.new nodes.new }
+    requires roomy { RoomyEntry (entry_number entry) }
+    requires short { length payload.now ≤ 4294967296 }
+    requires again { Again check (read_entry limit (entry_number entry) payload.now) }
+    ensures { ReadsWhole check (laid_as lay (read_entry limit (entry_number entry) payload.now)) text.old rows.old nodes.old result text.new rows.new nodes.new }
 {
     let mut memory = Memory {
         check,
@@ -133,6 +137,7 @@ fn decode_fitting(
         clear_behind(text, 0, rows, 0, nodes, 0);
         return Ok(message);
     }
+    // The first reading accepted it, and the second relies on that: it tests no text, and its answer is the first one's.
     let _ = read_into(entry, payload, false, limit, text, rows, nodes);
     clear_behind(text, t, rows, r, nodes, k);
     Ok(message)

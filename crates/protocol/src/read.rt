@@ -1,10 +1,11 @@
 // Reading whole messages, each as its layout says. In the reading that does not check, texts, rows and nodes are stored. Each reader asks for a memory of which
 // nothing is taken (`Empty`), so that what it takes is where the memory stands in the end: a message's first text stands at the start of text, and no place
-// overflows, since a payload has a byte for each that is passed.
+// overflows, since a payload has a byte for each that is passed. One with texts asks too that the same was accepted before, if it does not check (`Again`).
 // A step takes a place in the payload beside it, as the readers of fields do (fields.rt).
 ghost use Rattle.std.specs.Prelude.{◌≡◌};
-ghost use Rattle.varint.specs.Runs.{end_of, values_of};
-ghost use Rattle.protocol.specs.Inner.Loading.{at_end, laid_as, with_run, Becomes, Empty, ReadsBare, ReadsInto, RoomyEntry, lay_finished};
+ghost use Rattle.varint.specs.Formats.{varint, read_times};
+ghost use Rattle.varint.specs.Inner.Again.{Again};
+ghost use Rattle.protocol.specs.Inner.Loading.{at_end, laid_as, past, Loads, Empty, bare, ReadsInto, RoomyEntry, lay_finished};
 ghost use Rattle.protocol.specs.Wholes.{ended};
 ghost use Rattle.protocol.specs.declared.message.ControlOp.TheVariants.{Create};
 ghost use Rattle.protocol.specs.Complete.{read_complete, lay_complete};
@@ -12,9 +13,10 @@ ghost use Rattle.protocol.specs.Control.{read_control, lay_control};
 ghost use Rattle.protocol.specs.Entries.{entry_number};
 ghost use Rattle.protocol.specs.Error.{read_error, lay_error};
 ghost use Rattle.protocol.specs.Fetch.{read_fetch, lay_fetch};
-ghost use Rattle.protocol.specs.Ids.{read_ids, lay_ids};
+ghost use Rattle.protocol.specs.Ids.{lay_id, read_ids, lay_ids};
 ghost use Rattle.protocol.specs.Listing.{read_listing, lay_listing};
 ghost use Rattle.protocol.specs.Page.{read_page, lay_page};
+ghost use Rattle.protocol.specs.Pieces.{many};
 ghost use Rattle.protocol.specs.Profile.{read_profile, lay_profile};
 ghost use Rattle.protocol.specs.Ready.{read_ready, lay_ready};
 ghost use Rattle.protocol.specs.Reply.{finish, reply_on, read_reply, lay_reply};
@@ -49,7 +51,7 @@ fn at_end(s: &[u8], at: usize) -> Result<(), Refusal>
 #[inline(always)]
 #[tactic(auto, unfolding(crate::specs::Ready::read_ready, crate::specs::Ready::lay_ready, crate::specs::Inner::Loading::bare))]
 pub(crate) fn read_ready(s: &[u8]) -> Result<Message, Refusal>
-    ensures { ReadsBare (laid_as lay_ready (read_ready s.now)) result }
+    ensures { result ≡ bare (laid_as lay_ready (read_ready s.now)) }
 {
     let (version, p) = get_u64(s, 0)?;
     let (schema_fingerprint, q) = get_u64(s, p)?;
@@ -68,7 +70,7 @@ pub(crate) fn read_ready(s: &[u8]) -> Result<Message, Refusal>
 #[inline(always)]
 #[tactic(auto, unfolding(crate::specs::Complete::read_complete, crate::specs::Complete::lay_complete, crate::specs::Inner::Loading::bare))]
 pub(crate) fn read_complete(s: &[u8]) -> Result<Message, Refusal>
-    ensures { ReadsBare (laid_as lay_complete (read_complete s.now)) result }
+    ensures { result ≡ bare (laid_as lay_complete (read_complete s.now)) }
 {
     let (first, p) = get_u64(s, 0)?;
     let (second, end) = get_u64(s, p)?;
@@ -79,7 +81,7 @@ pub(crate) fn read_complete(s: &[u8]) -> Result<Message, Refusal>
 #[inline(always)]
 #[tactic(auto, unfolding(crate::specs::Listing::read_listing, crate::specs::Listing::lay_listing, crate::specs::Inner::Loading::bare))]
 pub(crate) fn read_listing_digest(s: &[u8]) -> Result<Message, Refusal>
-    ensures { ReadsBare (laid_as lay_listing (read_listing s.now)) result }
+    ensures { result ≡ bare (laid_as lay_listing (read_listing s.now)) }
 {
     let (number, p) = get_u64(s, 0)?;
     let Ok(predicate) = u32::try_from(number) else {
@@ -91,10 +93,11 @@ pub(crate) fn read_listing_digest(s: &[u8]) -> Result<Message, Refusal>
 }
 
 #[inline(always)]
-#[tactic(auto, unfolding(crate::specs::Error::read_error, crate::specs::Inner::Loading::told, crate::specs::Inner::Loading::load_laid, crate::specs::Inner::Loading::Few))]
+#[tactic(auto, unfolding(crate::specs::Error::read_error, crate::specs::Inner::Loading::told, crate::specs::Inner::Loading::load))]
 fn read_error(s: &[u8], memory: &mut Memory<'_>) -> Result<Message, Refusal>
-    requires { Empty memory.old }
-    ensures { ReadsInto s.now (laid_as lay_error (read_error memory.old.check s.now)) memory.old memory.new result }
+    requires empty { Empty memory.old }
+    requires again { Again memory.old.check (read_error s.now) }
+    ensures { ReadsInto (laid_as lay_error (read_error s.now)) memory.old memory.new result }
 {
     let (code, p) = read_known::<ErrorCode>(s, 0, Mismatch::ErrorCode)?;
     let (text, _) = memory.text(s, p)?;
@@ -102,10 +105,11 @@ fn read_error(s: &[u8], memory: &mut Memory<'_>) -> Result<Message, Refusal>
 }
 
 #[inline(always)]
-#[tactic(auto, unfolding(crate::specs::Control::read_control, crate::specs::Inner::Loading::told, crate::specs::Inner::Loading::load_laid, crate::specs::Inner::Loading::Few))]
+#[tactic(auto, unfolding(crate::specs::Control::read_control, crate::specs::Inner::Loading::told, crate::specs::Inner::Loading::load))]
 fn read_control(s: &[u8], memory: &mut Memory<'_>) -> Result<Message, Refusal>
-    requires { Empty memory.old }
-    ensures { ReadsInto s.now (laid_as lay_control (read_control memory.old.check s.now)) memory.old memory.new result }
+    requires empty { Empty memory.old }
+    requires again { Again memory.old.check (read_control s.now) }
+    ensures { ReadsInto (laid_as lay_control (read_control s.now)) memory.old memory.new result }
 {
     let (op, p) = read_known::<ControlOp>(s, 0, Mismatch::ControlOp)?;
     let (database, q) = memory.name(s, p)?;
@@ -121,10 +125,11 @@ fn read_control(s: &[u8], memory: &mut Memory<'_>) -> Result<Message, Refusal>
 }
 
 #[inline(always)]
-#[tactic(auto, unfolding(crate::specs::Inner::Loading::told, crate::specs::Inner::Loading::load_laid, crate::specs::Inner::Loading::Few))]
+#[tactic(auto, unfolding(crate::specs::Inner::Loading::told, crate::specs::Inner::Loading::load))]
 fn read_created(s: &[u8], at: usize, memory: &mut Memory<'_>) -> Result<Message, Refusal>
-    requires { Empty memory.old }
-    ensures { ReadsInto s.now (laid_as lay_reply (ended s.now (reply_on memory.old.check Create s.now at))) memory.old memory.new result }
+    requires empty { Empty memory.old }
+    requires again { Again memory.old.check (ended s.now (reply_on Create s.now at)) }
+    ensures { ReadsInto (laid_as lay_reply (ended s.now (reply_on Create s.now at))) memory.old memory.new result }
 {
     let (instance, end) = memory.name(s, at)?;
     at_end(s, end)?;
@@ -134,7 +139,7 @@ fn read_created(s: &[u8], at: usize, memory: &mut Memory<'_>) -> Result<Message,
 #[inline(always)]
 #[tactic(auto, unfolding(crate::specs::Reply::lay_reply, crate::specs::Inner::Loading::bare))]
 fn read_finished(s: &[u8], at: usize) -> Result<Message, Refusal>
-    ensures { ReadsBare (laid_as lay_finished (ended s.now (finish.read s.now at))) result }
+    ensures { result ≡ bare (laid_as lay_finished (ended s.now (finish.read s.now at))) }
 {
     let (fingerprint, p) = get_u64(s, at)?;
     let (facts, q) = get_u64(s, p)?;
@@ -150,10 +155,11 @@ fn read_finished(s: &[u8], at: usize) -> Result<Message, Refusal>
 }
 
 #[inline(always)]
-#[tactic(auto, unfolding(crate::specs::Reply::read_reply, crate::specs::Inner::Loading::told, crate::specs::Inner::Loading::load_laid, crate::specs::Inner::Loading::Few))]
+#[tactic(auto, unfolding(crate::specs::Reply::read_reply, crate::specs::Inner::Loading::told, crate::specs::Inner::Loading::load))]
 fn read_control_reply(s: &[u8], memory: &mut Memory<'_>) -> Result<Message, Refusal>
-    requires { Empty memory.old }
-    ensures { ReadsInto s.now (laid_as lay_reply (read_reply memory.old.check s.now)) memory.old memory.new result }
+    requires empty { Empty memory.old }
+    requires again { Again memory.old.check (read_reply s.now) }
+    ensures { ReadsInto (laid_as lay_reply (read_reply s.now)) memory.old memory.new result }
 {
     let (op, next) = read_known::<ControlOp>(s, 0, Mismatch::ControlOp)?;
     match op {
@@ -168,10 +174,11 @@ fn read_control_reply(s: &[u8], memory: &mut Memory<'_>) -> Result<Message, Refu
 
 // The cursor and the query behind it stand in the payload as they do in text, so they are copied at once.
 #[inline(always)]
-#[tactic(auto, unfolding(crate::specs::Page::read_page, crate::specs::Inner::Loading::told, crate::specs::Inner::Loading::load_laid, crate::specs::Inner::Loading::Few))]
+#[tactic(auto, unfolding(crate::specs::Page::read_page, crate::specs::Inner::Loading::told, crate::specs::Inner::Loading::load))]
 fn read_page(s: &[u8], memory: &mut Memory<'_>) -> Result<Message, Refusal>
-    requires { Empty memory.old }
-    ensures { ReadsInto s.now (laid_as lay_page (read_page memory.old.check s.now)) memory.old memory.new result }
+    requires empty { Empty memory.old }
+    requires again { Again memory.old.check (read_page s.now) }
+    ensures { ReadsInto (laid_as lay_page (read_page s.now)) memory.old memory.new result }
 {
     let (limit, p) = get_u64_le(s, 0)?;
     let (len, q) = get_u32_le(s, p)?;
@@ -201,11 +208,14 @@ fn read_page(s: &[u8], memory: &mut Memory<'_>) -> Result<Message, Refusal>
     })
 }
 
-// The `count` ids from place `at` on: the reading that checks passes them, and the other stores them. The place in rows does not move on yet.
+// The `count` ids from place `at` on: the reading that checks passes them, and the other stores them. They are the message's only rows.
 #[inline(always)]
+#[tactic(auto, using(crate::proofs::RowMessages::ids_loaded))]
 fn run_ids(s: &[u8], at: usize, count: u64, memory: &mut Memory<'_>) -> Result<usize, Refusal>
-    ensures { (result ≡ end_of count s.now at) × Becomes (with_run (values_of count s.now at)) memory.old memory.new }
+    requires { Empty memory.old }
+    ensures { Loads past (many lay_id) (read_times varint count s.now at) memory.old memory.new result }
 {
+    memory.r = count as usize;
     if memory.check {
         return skim_run(s, at, count);
     }
@@ -213,22 +223,22 @@ fn run_ids(s: &[u8], at: usize, count: u64, memory: &mut Memory<'_>) -> Result<u
 }
 
 #[inline(always)]
-#[tactic(auto, using(crate::proofs::RowMessages::no_ids), unfolding(crate::specs::Ids::read_ids, crate::specs::Inner::Loading::told, crate::specs::Inner::Loading::load_laid, crate::specs::Inner::Loading::Few))]
+#[tactic(auto, unfolding(crate::specs::Ids::read_ids, crate::specs::Inner::Loading::told, crate::specs::Inner::Loading::load))]
 fn read_ids(s: &[u8], memory: &mut Memory<'_>) -> Result<Message, Refusal>
     requires { Empty memory.old }
-    ensures { ReadsInto s.now (laid_as lay_ids (read_ids s.now)) memory.old memory.new result }
+    ensures { ReadsInto (laid_as lay_ids (read_ids s.now)) memory.old memory.new result }
 {
     let (count, p) = get_u64(s, 0)?;
     run_ids(s, p, count, memory)?;
-    memory.r += count as usize;
     Ok(Message::Ids { count })
 }
 
 #[inline(always)]
-#[tactic(auto, using(varint::proofs::FormatParts::num_inside), unfolding(crate::specs::Types::read_types, crate::specs::Inner::Loading::told, crate::specs::Inner::Loading::load_laid, crate::specs::Inner::Loading::Few))]
+#[tactic(auto, using(varint::proofs::FormatParts::num_inside), unfolding(crate::specs::Types::read_types, crate::specs::Inner::Loading::told, crate::specs::Inner::Loading::load))]
 fn read_types(s: &[u8], memory: &mut Memory<'_>) -> Result<Message, Refusal>
-    requires { Empty memory.old }
-    ensures { ReadsInto s.now (laid_as lay_types (read_types memory.old.check memory.old.limit s.now)) memory.old memory.new result }
+    requires empty { Empty memory.old }
+    requires again { Again memory.old.check (read_types memory.old.limit s.now) }
+    ensures { ReadsInto (laid_as lay_types (read_types memory.old.limit s.now)) memory.old memory.new result }
 {
     let (count, p) = get_u64(s, 0)?;
     read_rows::<Predicate>(count, s, p, memory)?;
@@ -236,10 +246,11 @@ fn read_types(s: &[u8], memory: &mut Memory<'_>) -> Result<Message, Refusal>
 }
 
 #[inline(always)]
-#[tactic(auto, using(varint::proofs::FormatParts::num_inside), unfolding(crate::specs::Profile::read_profile, crate::specs::Inner::Loading::told, crate::specs::Inner::Loading::load_laid, crate::specs::Inner::Loading::Few))]
+#[tactic(auto, using(varint::proofs::FormatParts::num_inside), unfolding(crate::specs::Profile::read_profile, crate::specs::Inner::Loading::told, crate::specs::Inner::Loading::load))]
 fn read_profile(s: &[u8], memory: &mut Memory<'_>) -> Result<Message, Refusal>
-    requires { Empty memory.old }
-    ensures { ReadsInto s.now (laid_as lay_profile (read_profile memory.old.check s.now)) memory.old memory.new result }
+    requires empty { Empty memory.old }
+    requires again { Again memory.old.check (read_profile s.now) }
+    ensures { ReadsInto (laid_as lay_profile (read_profile s.now)) memory.old memory.new result }
 {
     let (steps, p) = get_u64(s, 0)?;
     let length = s.len() as u64;
@@ -255,10 +266,11 @@ fn read_profile(s: &[u8], memory: &mut Memory<'_>) -> Result<Message, Refusal>
 }
 
 #[inline(always)]
-#[tactic(auto, using(varint::proofs::FormatParts::num_inside), unfolding(crate::specs::Fetch::read_fetch, crate::specs::Inner::Loading::told, crate::specs::Inner::Loading::load_laid, crate::specs::Inner::Loading::Few))]
+#[tactic(auto, using(varint::proofs::FormatParts::num_inside), unfolding(crate::specs::Fetch::read_fetch, crate::specs::Inner::Loading::told, crate::specs::Inner::Loading::load))]
 fn read_fetch(s: &[u8], memory: &mut Memory<'_>) -> Result<Message, Refusal>
-    requires { Empty memory.old }
-    ensures { ReadsInto s.now (laid_as lay_fetch (read_fetch s.now)) memory.old memory.new result }
+    requires empty { Empty memory.old }
+    requires again { Again memory.old.check (read_fetch s.now) }
+    ensures { ReadsInto (laid_as lay_fetch (read_fetch s.now)) memory.old memory.new result }
 {
     let (digest, next) = read_digest(s, 0)?;
     let (count, p) = get_u64(s, next)?;
@@ -271,10 +283,11 @@ fn read_fetch(s: &[u8], memory: &mut Memory<'_>) -> Result<Message, Refusal>
 }
 
 #[inline(always)]
-#[tactic(auto, using(varint::proofs::FormatParts::num_inside), unfolding(crate::specs::Startup::read_startup, crate::specs::Inner::Loading::told, crate::specs::Inner::Loading::load_laid, crate::specs::Inner::Loading::Few))]
+#[tactic(auto, using(varint::proofs::FormatParts::num_inside), unfolding(crate::specs::Startup::read_startup, crate::specs::Inner::Loading::told, crate::specs::Inner::Loading::load))]
 fn read_startup(s: &[u8], memory: &mut Memory<'_>) -> Result<Message, Refusal>
-    requires { Empty memory.old }
-    ensures { ReadsInto s.now (laid_as lay_startup (read_startup memory.old.check s.now)) memory.old memory.new result }
+    requires empty { Empty memory.old }
+    requires again { Again memory.old.check (read_startup s.now) }
+    ensures { ReadsInto (laid_as lay_startup (read_startup s.now)) memory.old memory.new result }
 {
     let (number, p) = get_u64(s, 0)?;
     let (database, q) = memory.name(s, p)?;
@@ -304,8 +317,10 @@ pub(crate) fn read_message(
     s: &[u8],
     memory: &mut Memory<'_>,
 ) -> Result<Message, Refusal>
-    requires { RoomyEntry (entry_number entry) × Empty memory.old }
-    ensures { ReadsInto s.now (laid_as lay (read_entry memory.old.check memory.old.limit (entry_number entry) s.now)) memory.old memory.new result }
+    requires roomy { RoomyEntry (entry_number entry) }
+    requires empty { Empty memory.old }
+    requires again { Again memory.old.check (read_entry memory.old.limit (entry_number entry) s.now) }
+    ensures { ReadsInto (laid_as lay (read_entry memory.old.limit (entry_number entry) s.now)) memory.old memory.new result }
 {
     match entry {
         Entry::Startup => read_startup(s, memory),

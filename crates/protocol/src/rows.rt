@@ -1,10 +1,17 @@
 // Reading the rows of messages: claims, types, steps, and the pairs of a fetch. Each is read at a place of the bytes, into the lent memory, and
 // answers the place past it, for which it takes the place beside the slice (fields.rt).
-#![tactic(auto, unfolding(crate::specs::Inner::Loading::load, crate::specs::Inner::Loading::load_row, crate::specs::Inner::Loading::load_desc, crate::specs::Inner::Loading::load_value, crate::specs::Inner::Loading::load_sides, crate::specs::Inner::Loading::told, crate::specs::Inner::Loading::Within))]
+#![tactic(auto, unfolding(crate::specs::Inner::Loading::load, crate::specs::Inner::Loading::told))]
 
 ghost use Rattle.std.specs.Prelude.{◌≡◌, ◌+◌, ◌*◌, ◌≤◌, length};
+ghost use Rattle.varint.specs.Formats.{read_times};
+ghost use Rattle.varint.specs.Inner.Again.{Again};
+ghost use Rattle.desc.specs.WellFormed.{descriptor};
 ghost use Rattle.protocol.specs.Fetch.{bad_fact};
-ghost use Rattle.protocol.specs.Inner.Loading.{mem, Fits, RowFits, Within, Loads, load_row, load_rows, load_value, load_sides};
+ghost use Rattle.protocol.specs.Fields.{optional_on};
+ghost use Rattle.protocol.specs.Pieces.{many};
+ghost use Rattle.protocol.specs.Types.{lay_value};
+ghost use Rattle.protocol.specs.Inner.Rows.{row, lay_row};
+ghost use Rattle.protocol.specs.Inner.Loading.{mem, sides, lay_sides, past, Fits, RowFits, Loads};
 
 use crate::fields::{read_flag, read_wide_flag};
 use crate::memory::Memory;
@@ -20,8 +27,9 @@ const PREDICATES: u64 = 0x100_0000;
 // A type's value, where it has one.
 #[inline(always)]
 fn read_value(s: &[u8], at: usize, has: bool, memory: &mut Memory<'_>) -> Result<usize, Refusal>
-    requires { Fits s.now at (mem memory.old) }
-    ensures { Loads (load_value has s.now at) memory.old memory.new result }
+    requires before { Fits s.now at (mem memory.old) }
+    requires again { Again memory.old.check (optional_on (descriptor memory.old.limit) has s.now at) }
+    ensures { Loads past lay_value (optional_on (descriptor memory.old.limit) has s.now at) memory.old memory.new result }
 {
     if has {
         return memory.desc(s, at);
@@ -32,8 +40,9 @@ fn read_value(s: &[u8], at: usize, has: bool, memory: &mut Memory<'_>) -> Result
 // What follows a type's name: virtual, key, has value, value.
 #[inline(always)]
 fn read_sides(s: &[u8], at: usize, memory: &mut Memory<'_>) -> Result<usize, Refusal>
-    requires { RowFits s.now at (mem memory.old) }
-    ensures { Loads (load_sides s.now at) memory.old memory.new result }
+    requires before { RowFits s.now at (mem memory.old) }
+    requires again { Again memory.old.check ((sides memory.old.limit).read s.now at) }
+    ensures { Loads past lay_sides ((sides memory.old.limit).read s.now at) memory.old memory.new result }
 {
     let root = memory.n as u64;
     let (is_virtual, p) = read_wide_flag(s, at)?;
@@ -53,8 +62,9 @@ fn bad_fact(predicate: u64, sequence: u64) -> Refusal
 // Rows that are read: each kind has a reader of its own, so that the loop over rows is made for it. Ids alone are read as a run of varints.
 pub(crate) trait ReadRow: Row {
     fn read(s: &[u8], at: usize, memory: &mut Memory<'_>) -> Result<usize, Refusal>
-        requires { RowFits s.now at (mem memory.old) }
-        ensures { Loads (load_row Self.KIND s.now at) memory.old memory.new result };
+        requires before { RowFits s.now at (mem memory.old) }
+        requires again { Again memory.old.check ((row Self.KIND memory.old.limit).read s.now at) }
+        ensures { Loads past (lay_row Self.KIND) ((row Self.KIND memory.old.limit).read s.now at) memory.old memory.new result };
 }
 
 impl ReadRow for Claim {
@@ -121,8 +131,9 @@ pub(crate) fn read_rows<R: ReadRow>(
     at: usize,
     memory: &mut Memory<'_>,
 ) -> Result<usize, Refusal>
-    requires { RowFits s.now at (mem memory.old) }
-    ensures { Loads (load_rows R.KIND count s.now at) memory.old memory.new result × Within s.now result (mem memory.new) }
+    requires before { RowFits s.now at (mem memory.old) }
+    requires again { Again memory.old.check (read_times (row R.KIND memory.old.limit) count s.now at) }
+    ensures { Loads past (many (lay_row R.KIND)) (read_times (row R.KIND memory.old.limit) count s.now at) memory.old memory.new result }
 {
     let mut next = at;
     for _ in 0..count {

@@ -8,13 +8,14 @@ use lib.ListN.{length, take, replicate, length-append, length-replicate}
 use lib.Seq.{take-append_seam, drop-append_seam}
 use borrow.Author.Tests.{ltb-true, ltb-false}
 use Rattle.varint.specs.Gathering.{Held, held, lacks}
-use Rattle.varint.specs.Outs.{Sent, wrote, send}
+use Rattle.varint.specs.Lent.{fitted, settled}
+use Rattle.varint.specs.Outs.{Sent, wrote, send, sent}
 use Rattle.varint.specs.Stores.{filled}
 use Rattle.varint.proofs.Basics.{pick_cases}
 use Rattle.varint.proofs.StoreLaws.{filled_fits}
 use Rattle.desc.proofs.Undone.{not_wrote}
-use Rattle.protocol.specs.Decoding.{fitted, settled, decode_message}
-use Rattle.protocol.specs.Encoding.{held_said, sent, encode_message}
+use Rattle.protocol.specs.Decoding.{taken_by, decode_message}
+use Rattle.protocol.specs.Encoding.{held_said, encode_message}
 use Rattle.protocol.specs.Laying.{Laid}
 use Rattle.protocol.specs.Said.{Said, print_said, lay, entry_of}
 use Rattle.protocol.specs.declared.message.Message.{Message}
@@ -62,7 +63,7 @@ module _ (max limit : ℕ) (small : Narrow max) (message : Message) (tx rs nd : 
     unfolding encode_message sent
     printed = on (held_said limit message tx rs nd) refl h.sent
       where
-        on : (x : Held Said) → held_said limit message tx rs nd ≡ x → sent max x h.out ≡ record { answer = Ok n; out = out' } → Printed
+        on : (x : Held Said) → held_said limit message tx rs nd ≡ x → sent max print_said x h.out ≡ record { answer = Ok n; out = out' } → Printed
         on (lacks r) i e = not_wrote (ap (λ (s : Sent). s.answer) e)
         on (held m) i e =
             let w = sent_whole max (print_said m) h.out n out' e in
@@ -76,7 +77,7 @@ module _ (max limit : ℕ) (small : Narrow max) (message : Message) (tx rs nd : 
             }
 
     -- so the bytes are decoded to its layout
-    laid : (p : Printed) (t r k : List ℕ) → decode_message max limit (entry_of p.said) (take n out') t r k ≡ fitted (lay p.said) t r k
+    laid : (p : Printed) (t r k : List ℕ) → decode_message max limit (entry_of p.said) (take n out') t r k ≡ fitted (lay p.said).message (taken_by (lay p.said)) t r k
     unfolding decode_message settled
     laid p t r k = rw (p.bytes, read_printed max limit p.said p.fine p.short)
 
@@ -96,7 +97,7 @@ module _ (s : Shown) (l : Laid) (text : text_needed s ≡ length l.piece.text) (
     (nodes : nodes_needed s ≡ length (l.piece.nodes 0 0))
     (shows : (X Y Z : List ℕ) → shown l.message (l.piece.text ++ X) (l.piece.rows 0 0 ++ Y) (l.piece.nodes 0 0 ++ Z) ≡ s) (t r k : List ℕ)
   where
-    fitted_leaves : Leaves s t r k (fitted l t r k)
+    fitted_leaves : Leaves s t r k (fitted l.message (taken_by l) t r k)
     unfolding fitted
     fitted_leaves =
         let T : List ℕ = l.piece.text in
@@ -133,7 +134,7 @@ returns max limit small message tx rs nd n out' h t r k =
     let f = fitted_leaves (shown_said m) (lay m) w.0 w.1 w.2
     (λ X Y Z.
     held_shown limit (lay m).message ((lay m).piece.text ++ X) ((lay m).piece.rows 0 0 ++ Y) ((lay m).piece.nodes 0 0 ++ Z) m (held_laid limit m o X Y Z)) t r k in
-    let d : decode_message max limit (shown_said m).entry (take n out') t r k ≡ fitted (lay m) t r k =
+    let d : decode_message max limit (shown_said m).entry (take n out') t r k ≡ fitted (lay m).message (taken_by (lay m)) t r k =
     rw (said_entry m) (laid max limit small message tx rs nd n out' h p t r k) in
     rw (e, d) f
 

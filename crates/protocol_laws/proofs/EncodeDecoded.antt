@@ -1,5 +1,4 @@
 -- Encoding what was decoded gives the bytes again.
-use mathlib.Core.Bool.{true}
 use mathlib.Core.Path.{◌≡◌, refl, sym, ◌∙◌, ap}
 use mathlib.Core.List.{List, ◌++◌}
 use Prim.Native.Nat.{ℕ, ◌-◌}
@@ -7,12 +6,13 @@ use lib.Dec.{ltb}
 use lib.ListN.{length, replicate}
 use borrow.Author.Tests.{ltb-false, le-ltb}
 use Rattle.varint.specs.Got.{Got}
-use Rattle.varint.specs.Outs.{send}
+use Rattle.varint.specs.Lent.{Left, kept, fitted, settled}
+use Rattle.varint.specs.Outs.{send, sent}
 use Rattle.varint.specs.declared.error.Refusal.{Refusal}
 use Rattle.varint.proofs.Basics.{pick_cases, never}
 use Rattle.varint.proofs.StoreLaws.{filled_fits}
-use Rattle.protocol.specs.Decoding.{Left, kept, fitted, settled, decode_message}
-use Rattle.protocol.specs.Encoding.{sent, encode_message}
+use Rattle.protocol.specs.Decoding.{taken_by, decode_message}
+use Rattle.protocol.specs.Encoding.{encode_message}
 use Rattle.protocol.specs.Laying.{Laid}
 use Rattle.protocol.specs.Said.{Said, read_message, print_said, lay}
 use Rattle.protocol.specs.declared.message.Message.{Message}
@@ -22,7 +22,7 @@ use Rattle.protocol_laws.proofs.MessagesForth.{read_whole, read_short, print_as}
 use Rattle.std.specs.Prelude.{Ok, Err}
 
 module _ (tx rs nd : List ℕ) (message : Message) (tx' rs' nd' : List ℕ) where
-  abbrev accepted : Left
+  abbrev accepted : Left Message
   accepted = record { answer = Ok message; text = tx'; rows = rs'; nodes = nd' }
 
   -- the message is laid out at the start of the memory
@@ -36,28 +36,28 @@ module _ (tx rs nd : List ℕ) (message : Message) (tx' rs' nd' : List ℕ) wher
     nodes : nd' ≡ l.piece.nodes 0 0 ++ nodes_rest
 
   not_kept : {X : Type 0} (e : Refusal) → kept e tx rs nd ≡ accepted → X
-  not_kept e h = let a = ap (λ (x : Left). x.answer) h in never cc
+  not_kept e h = let a = ap (λ (x : Left Message). x.answer) h in never cc
 
-  fitted_laid : (l : Laid) → fitted l tx rs nd ≡ accepted → LaidAs l
+  fitted_laid : (l : Laid) → fitted l.message (taken_by l) tx rs nd ≡ accepted → LaidAs l
   unfolding fitted
   fitted_laid l =
       let T : List ℕ = l.piece.text in
       let R : List ℕ = l.piece.rows 0 0 in
       let D : List ℕ = l.piece.nodes 0 0 in
-      let P : Left → Type 0 = λ x. x ≡ accepted → LaidAs l in
+      let P : Left Message → Type 0 = λ x. x ≡ accepted → LaidAs l in
       pick_cases P (ltb (length tx) (length T)) (λ _. not_kept _)
       (λ t. pick_cases P (ltb (length rs) (length R)) (λ _. not_kept _)
       (λ r. pick_cases P (ltb (length nd) (length D)) (λ _. not_kept _)
       (λ n h.
-      let a = ap (λ (x : Left). x.answer) h in
+      let a = ap (λ (x : Left Message). x.answer) h in
       record {
         fields = cc;
         text_rest = replicate (length tx - length T) 0;
-        text = sym (ap (λ (x : Left). x.text) h) ∙ filled_fits tx T (ltb-false (length tx) (length T) t);
+        text = sym (ap (λ (x : Left Message). x.text) h) ∙ filled_fits tx T (ltb-false (length tx) (length T) t);
         rows_rest = replicate (length rs - length R) 0;
-        rows = sym (ap (λ (x : Left). x.rows) h) ∙ filled_fits rs R (ltb-false (length rs) (length R) r);
+        rows = sym (ap (λ (x : Left Message). x.rows) h) ∙ filled_fits rs R (ltb-false (length rs) (length R) r);
         nodes_rest = replicate (length nd - length D) 0;
-        nodes = sym (ap (λ (x : Left). x.nodes) h) ∙ filled_fits nd D (ltb-false (length nd) (length D) n);
+        nodes = sym (ap (λ (x : Left Message). x.nodes) h) ∙ filled_fits nd D (ltb-false (length nd) (length D) n);
       })))
 
   -- so an accepted message was read and is laid out
@@ -67,7 +67,7 @@ module _ (tx rs nd : List ℕ) (message : Message) (tx' rs' nd' : List ℕ) wher
     read : g ≡ Ok (said, next)
     laid : LaidAs (lay said)
 
-  settled_laid : (g : Got Said) → settled g tx rs nd ≡ accepted → Taken g
+  settled_laid : (g : Got Said) → settled (λ v q. (lay v).message) (λ v. taken_by (lay v)) g tx rs nd ≡ accepted → Taken g
   unfolding settled
   settled_laid (Ok (m, q)) h = record { said = m; next = q; read = refl; laid = fitted_laid (lay m) h }
   settled_laid (Err e) h = not_kept e h
@@ -80,9 +80,9 @@ unfolding encode_message sent
 laid_encoded max limit m o tx rs nd X Y Z d message f t r n = rw (← f, t, r, n, held_laid limit m o X Y Z)
 
 module _ (max limit : ℕ) (s : List ℕ) (message : Message) (tx rs nd : List ℕ) (h : Decoded max limit s message tx rs nd) (out : List ℕ) where
-  taken : Taken h.t h.r h.k message tx rs nd (read_message true max limit h.entry s)
+  taken : Taken h.t h.r h.k message tx rs nd (read_message max limit h.entry s)
   unfolding decode_message
-  taken = settled_laid h.t h.r h.k message tx rs nd (read_message true max limit h.entry s) h.left
+  taken = settled_laid h.t h.r h.k message tx rs nd (read_message max limit h.entry s) h.left
 
   -- encoding it with what these buffers then hold is to send s
   sent_again : encode_message max limit message tx rs nd out ≡ send max s out

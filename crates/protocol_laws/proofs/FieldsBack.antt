@@ -11,7 +11,7 @@ use borrow.Author.Tests.{lt-ltb, le-ltb, le-leb}
 use Rattle.varint.specs.Choice.{pick}
 use Rattle.varint.specs.Fixed.{put_le}
 use Rattle.varint.specs.Got.{then}
-use Rattle.varint.specs.Formats.{Format, varint, fixed, print_all}
+use Rattle.varint.specs.Formats.{Format, varint, fixed, print_all, name}
 use Rattle.varint.specs.Leb128.{put_u64}
 use Rattle.varint.specs.RoundTrips.{Reads, Back, ListOk}
 use Rattle.varint.specs.Stores.{part}
@@ -23,7 +23,7 @@ use Rattle.varint.proofs.FormatBack.{in_a_row, made_of, varint_back, fixed_back,
 use Rattle.varint.proofs.StoreLaws.{part_seam}
 use Rattle.protocol.specs.Codes.{mode_of, mode_byte, error_of, error_byte, op_of, op_byte}
 use Rattle.protocol.specs.Fetch.{digest_on, digest, join_id, split_id, fact_id, bad_fact, pair}
-use Rattle.protocol.specs.Fields.{name, provided, narrow, byte, made_at, mode, error_code, control_op, bit, yes, flag, wide_flag, Optional, absent, present, optional_on, optional, counted_to, raw}
+use Rattle.protocol.specs.Fields.{provided, narrow, byte, made_at, mode, error_code, control_op, bit, yes, flag, wide_flag, Optional, absent, present, optional_on, optional, counted_to, raw}
 use Rattle.protocol.specs.Reply.{Reply, created, finished, removed, to_finished, from_finished, finish, reply_on, reply}
 use Rattle.protocol.specs.declared.message.ControlOp.TheVariants.{Create, Finish, Remove}
 use Rattle.protocol_laws.specs.Fine.{Wide, Narrow, IfPresent, FineDigest, FineReply}
@@ -108,15 +108,15 @@ digest_back = record { back = on }
 finish_back : Back finish (λ f. Wide f.fingerprint × (Wide f.facts × (Wide f.bytes × Unit)))
 finish_back = named_back to_finished from_finished (λ f. refl) (pair_back varint_back (pair_back varint_back (pair_back varint_back (flag_back M.AlreadyComplete))))
 
-pub reply_back : Back (reply true) FineReply
+pub reply_back : Back reply FineReply
 reply_back = record { back = on }
   where
-    on : (r : Reply) → FineReply r → Reads (reply true).read ((reply true).print r) r
+    on : (r : Reply) → FineReply r → Reads reply.read (reply.print r) r
     on (created i) h =
-        in_a_row control_op.read (reply_on true) (control_op.print Create) ((name true).print i) Create (created i) (op_back.back Create tt)
-        (made_of (name true).read created ((name true).print i) i (name_back.back i h))
+        in_a_row control_op.read reply_on (control_op.print Create) (name.print i) Create (created i) (op_back.back Create tt)
+        (made_of name.read created (name.print i) i (name_back.back i h))
     on (finished f) h =
-        in_a_row control_op.read (reply_on true) (control_op.print Finish) (finish.print f) Finish (finished f) (op_back.back Finish tt)
+        in_a_row control_op.read reply_on (control_op.print Finish) (finish.print f) Finish (finished f) (op_back.back Finish tt)
         (made_of finish.read finished (finish.print f) f (finish_back.back f (h.0, (h.1, (h.2, tt)))))
     on removed h = λ before rest. rw (op_back.back Remove tt before rest)
 

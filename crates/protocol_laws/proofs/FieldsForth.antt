@@ -1,5 +1,5 @@
 -- Only what is printed is read: the fields of the messages that have one encoding.
-use mathlib.Core.Bool.{Bool, true, false}
+use mathlib.Core.Bool.{Bool, true}
 use mathlib.Core.Path.{◌≡◌, refl, sym, ◌∙◌, ap, subst}
 use mathlib.Core.List.{List, [], ◌∷◌, ◌++◌, append-nil}
 use Prim.Native.Nat.{ℕ, ◌+◌, ◌-◌, ◌*◌, ◌/◌, ◌%◌, ◌≤◌}
@@ -29,9 +29,9 @@ use Rattle.varint.proofs.StoreLaws.{length_part}
 use Rattle.protocol.specs.Codes.{mode_byte, mode_of}
 use Rattle.protocol.specs.Fields.{provided, narrow, byte, made_at, mode, counted_to, raw, to_end}
 use Rattle.protocol.specs.Fetch.{digest_on, print_digest, digest, join_id, split_id, fact_id, bad_fact, pair}
-use Rattle.protocol.proofs.FieldEnds.{kept, spared, passed, byte_got}
+use Rattle.protocol.proofs.FieldEnds.{kept, spared, passed, byte_got, made_got, to_end_got}
 use Rattle.protocol_laws.proofs.CodeRounds.{mode_only}
-use Rattle.std.specs.Prelude.{Ok, Err, Result, Option}
+use Rattle.std.specs.Prelude.{Ok, Err, Option}
 
 -- Formats
 
@@ -85,11 +85,6 @@ byte_forth missing =
           let x₂ = x.2 in
           record { bytes = drop-cons s at 0 x.0 ∙ cc (add-one at, x.1, x.2); next = omega arith; inside = omega arith };
     }
-
--- what was made is what is told, and no more was read
-pub made_got : {A : Type 0} (x : Result A Refusal) (p : ℕ) (a : A) (q : ℕ) → made_at x p ≡ Ok (a, q) → (x ≡ Ok a) × (p ≡ q)
-made_got (Ok b) p a q e = let w = got_of e in (ap (λ c. Ok c) w.0, w.1)
-made_got (Err r) p a q e = no_got e
 
 pub mode_forth : Forth mode
 mode_forth =
@@ -166,19 +161,15 @@ fact_forth =
 
 -- The rest of a payload
 
-pub to_end_got : (check : Bool) (s : List ℕ) (at : ℕ) (x : List ℕ) (q : ℕ) → (to_end check).read s at ≡ Ok (x, q) → (drop at s ≡ x) × (length s ≡ q)
-to_end_got true s at x q e = got_of (kept (utf8 (drop at s)) _ _ e).1
-to_end_got false s at x q e = got_of e
-
-pub to_end_gives : Gives (to_end true) (λ x. utf8 x ≡ true)
+pub to_end_gives : Gives to_end (λ x. utf8 x ≡ true)
 to_end_gives =
-    record { gives = λ s at x q B e. ap utf8 (sym (to_end_got true s at x q e).0) ∙ (kept (utf8 (drop at s)) _ _ e).0 }
+    record { gives = λ s at x q B e. ap utf8 (sym (to_end_got s at x q e).0) ∙ (kept (utf8 (drop at s)) _ _ e).0 }
 
-pub to_end_forth : (check : Bool) → Forth (to_end check)
-to_end_forth check =
+pub to_end_forth : Forth to_end
+to_end_forth =
     record {
       forth = λ s at x q B h e.
-          let w = to_end_got check s at x q e in
+          let w = to_end_got s at x q e in
           let l = length-drop at s in
           rw (← w.0, ← w.1) (record { bytes = sym (rw drop-length (append-nil (drop at s))); next = omega arith; inside = omega arith });
     }

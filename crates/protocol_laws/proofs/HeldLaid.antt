@@ -182,16 +182,16 @@ fine_sound limit (opaque s) f = tt
 
 -- What is read is sound
 
-claim_gives : Gives (claim true) (λ c. utf8 c.name ≡ true)
+claim_gives : Gives claim (λ c. utf8 c.name ≡ true)
 claim_gives = named_gives to_claim from_claim (λ c p. p.0.1) (pair_gives name_gives (any_gives varint))
 
-startup_gives : Gives (startup true) (λ m. (utf8 m.database ≡ true) × All (λ c. utf8 c.name ≡ true) m.claims)
+startup_gives : Gives startup (λ m. (utf8 m.database ≡ true) × All (λ c. utf8 c.name ≡ true) m.claims)
 startup_gives =
     named_gives to_startup from_startup (λ c p. (p.1.0.1, p.1.1.1.1.1))
     (pair_gives (any_gives varint)
     (pair_gives name_gives (pair_gives (any_gives mode) (pair_gives (any_gives varint) (counted_gives claim_gives)))))
 
-page_gives : Gives (page true) (λ m. utf8 m.query ≡ true)
+page_gives : Gives page (λ m. utf8 m.query ≡ true)
 page_gives = named_gives to_page from_page (λ c p. p.1.1) (pair_gives (any_gives (fixed 8)) (pair_gives (any_gives raw) to_end_gives))
 
 fetch_gives : Gives fetch (λ m. length m.ids ≤ max_fetch)

@@ -3,11 +3,12 @@ use mathlib.Core.Bool.{Bool, true, false}
 use mathlib.Core.Path.{◌≡◌, refl, sym, ◌∙◌, ap}
 use mathlib.Core.List.{List, [], ◌∷◌, ◌++◌}
 use Prim.Native.Nat.{ℕ, ◌+◌, ◌*◌, ◌≤◌}
-use native.Mathlib.Nat.{add-zero, suc-mul}
+use native.Mathlib.Nat.{add-zero}
 use native.Mathlib.Omega.{arith}
 use lib.Dec.{leb}
 use lib.ListN.{length, length-append}
 use borrow.Author.Tests.{le-ltb, eq-eqb}
+use Rattle.protocol.proofs.PieceLaws.{rows_length}
 use Rattle.varint.specs.Choice.{pick}
 use Rattle.varint.specs.Gathering.{Held, held, name_held, text_held}
 use Rattle.varint.specs.RoundTrips.{All, TextOk}
@@ -31,7 +32,7 @@ use Rattle.protocol.specs.Profile.{step_width, lay_step, held_step}
 use Rattle.protocol.specs.RowsHeld.{enough, held_times, all_good}
 use Rattle.protocol.specs.Startup.{claim_width, lay_claim, held_claim}
 use Rattle.protocol.specs.Types.{Predicate, type_width, has_value, lay_value, lay_predicate, type_numbers, node_after, type_laid, types_laid, held_predicate}
-use Rattle.protocol.proofs.RowEnds.{predicate_nodes}
+use Rattle.protocol.proofs.RowEnds.{predicate_nodes, predicate_rows}
 use Rattle.protocol_laws.specs.Fine.{IfPresent}
 use Rattle.protocol_laws.proofs.FineHeld.{value_in}
 use Rattle.protocol_laws.proofs.Standing.{At, at_first, at_room, at_cell, at_head, In, in_first, in_rest}
@@ -72,25 +73,6 @@ pub record Rowed {A : Type 0} (piece : A → Piece) (row : List ℕ → List ℕ
   pub cells : (a : A) (t n : ℕ) → length ((piece a).rows t n) ≡ wide
   pub nodes : (a : A) (t n : ℕ) → length ((piece a).nodes t n) ≡ (piece a).size * width
   pub again : (a : A) → Ok a → (tx rs nd : List ℕ) (t r n : ℕ) → In (piece a) tx rs nd t r n → row tx rs nd r ≡ held a
-
--- n rows have n times as many numbers
-pub rows_length : {A : Type 0} (piece : A → Piece) (wide : ℕ) → ((a : A) (t n : ℕ) → length ((piece a).rows t n) ≡ wide)
-    → (l : List A) (t n : ℕ) → length ((many piece l).rows t n) ≡ length l * wide
-unfolding many
-rows_length piece wide cells [] t n = omega arith
-rows_length piece wide cells (a ∷ l) t n =
-    let i = rows_length piece wide cells l (t + length (piece a).text) (n + (piece a).size) in
-    rw (length-append, cells a t n, i, suc-mul) (omega arith)
-
--- and seven a node
-pub nodes_length : {A : Type 0} (piece : A → Piece) → ((a : A) (t n : ℕ) → length ((piece a).nodes t n) ≡ (piece a).size * width)
-    → (l : List A) (t n : ℕ) → length ((many piece l).nodes t n) ≡ (many piece l).size * width
-unfolding many
-nodes_length piece seven [] t n = refl
-nodes_length piece seven (a ∷ l) t n =
-    let i = nodes_length piece seven l (t + length (piece a).text) (n + (piece a).size) in
-    let j = seven a t n in
-    simp length-append (omega arith)
 
 module _ {A : Type 0} {piece : A → Piece} {row : List ℕ → List ℕ → List ℕ → ℕ → Held A} {wide : ℕ} {Ok : A → Type 0} (R : Rowed piece row wide Ok) where
   module _ (tx rs nd : List ℕ) where
@@ -258,13 +240,6 @@ module _ (limit : ℕ) (p : Predicate) (ok : SoundPredicate limit p) (tx rs nd :
   pub predicate_numbers : type_numbers rs r ≡ true
   unfolding type_numbers
   predicate_numbers = rw (at_head row_there, at_cell row_there 3, at_cell row_there 4, ok.0, bit_small p.virtual, bit_small (has_value p.value))
-
-value_rows : (v : Optional (Tree (List ℕ))) (t n : ℕ) → (lay_value v).rows t n ≡ []
-value_rows absent t n = refl
-value_rows (present v) t n = refl
-
-pub predicate_rows : (p : Predicate) (t n : ℕ) → length ((lay_predicate p).rows t n) ≡ type_width
-predicate_rows p t n = ap (λ (x : List ℕ). length (0 ∷ 0 ∷ 0 ∷ 0 ∷ 0 ∷ 0 ∷ x)) (value_rows p.value _ _)
 
 pub predicate_rowed : (limit : ℕ) → Rowed lay_predicate (held_predicate limit) type_width (SoundPredicate limit)
 predicate_rowed limit =

@@ -13,5 +13,4 @@ pub mod ShownHeld
 pub mod ShownRows
 pub mod ShownSaid
 pub mod ShownTypes
-pub mod Sizes
 pub mod Standing

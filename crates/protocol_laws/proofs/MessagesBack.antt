@@ -24,7 +24,8 @@ use Rattle.protocol.specs.Complete.{to_complete, from_complete, complete, read_c
 use Rattle.protocol.specs.Control.{to_control, from_control, control, read_control}
 use Rattle.protocol.specs.Error.{to_error, from_error, error, read_error}
 use Rattle.protocol.specs.Fetch.{to_fetch, from_fetch, fetch, read_fetch, max_fetch}
-use Rattle.protocol.specs.Fields.{Optional, absent, present, descriptor, print_optional, to_end}
+use Rattle.desc.specs.WellFormed.{descriptor}
+use Rattle.protocol.specs.Fields.{Optional, absent, present, print_optional, to_end}
 use Rattle.protocol.specs.Ids.{read_ids}
 use Rattle.protocol.specs.Listing.{to_listing, from_listing, listing, read_listing}
 use Rattle.protocol.specs.Page.{Page, to_page, page, read_page}
@@ -41,10 +42,10 @@ use Rattle.std.specs.Prelude.{Ok, Err}
 
 -- The formats of the messages
 
-claim_back : Back (claim true) FineClaim
+claim_back : Back claim FineClaim
 claim_back = named_back to_claim from_claim (λ c. refl) (pair_back name_back varint_back)
 
-startup_back : Back (startup true) (λ m. FineSaid 0 (said_startup m))
+startup_back : Back startup (λ m. FineSaid 0 (said_startup m))
 unfolding FineSaid
 startup_back =
     back_by (λ m h. (omega arith, (h.1, (tt, (h.2, h.3)))))
@@ -55,7 +56,7 @@ unfolding FineSaid
 ready_back =
     back_by (λ m h. (omega arith, (h.1, h.2))) (named_back to_ready from_ready (λ m. refl) (pair_back varint_back (pair_back varint_back varint_back)))
 
-error_back : Back (error true) (λ m. FineSaid 0 (said_error m))
+error_back : Back error (λ m. FineSaid 0 (said_error m))
 unfolding FineSaid
 error_back = back_by (λ m h. (tt, h)) (named_back to_error from_error (λ m. refl) (pair_back error_code_back text_back))
 
@@ -63,19 +64,19 @@ complete_back : Back complete (λ m. FineSaid 0 (said_complete m))
 unfolding FineSaid
 complete_back = named_back to_complete from_complete (λ m. refl) (pair_back varint_back varint_back)
 
-predicate_back : (limit : ℕ) → Back (predicate true limit) (FinePredicate limit)
+predicate_back : (limit : ℕ) → Back (predicate limit) (FinePredicate limit)
 predicate_back limit =
     back_by (λ p h. (h.0, (h.1, (tt, (h.2, h.3)))))
     (named_back to_predicate from_predicate (λ p. refl)
     (pair_back (narrow_back (λ _. UnknownPredicate)) (pair_back name_back (pair_back wide_flag_back (pair_back (descriptor_back limit) (optional_back (descriptor_back limit)))))))
 
-control_back : Back (control true) (λ m. FineSaid 0 (said_control m))
+control_back : Back control (λ m. FineSaid 0 (said_control m))
 unfolding FineSaid
 control_back =
     back_by (λ m h. (tt, (h.0, (tt, h.1))))
     (named_back to_control from_control (λ m. refl) (pair_back op_back (pair_back name_back (pair_back (flag_back M.ControlFlag) text_back))))
 
-step_back : Back (step true) FineStep
+step_back : Back step FineStep
 step_back = back_by (λ m h. (h.0, (h.1, tt))) (named_back to_step from_step (λ m. refl) (pair_back name_back (pair_back varint_back (flag_back M.FullScan))))
 
 fetch_back : Back fetch (λ m. FineSaid 0 (said_fetch m))
@@ -90,16 +91,16 @@ unfolding FineSaid
 listing_back = named_back to_listing from_listing (λ m. refl) (pair_back (narrow_back BadListingPredicate) varint_back)
 
 -- every step has its flag, so there are no more steps than bytes
-steps_few : (l : List Step) → length l ≤ length (print_all (step true) l)
+steps_few : (l : List Step) → length l ≤ length (print_all step l)
 unfolding print_all
 steps_few [] = omega arith
 steps_few (m ∷ l) = simp length-append (omega (arith, steps_few l))
 
-profile_back : Back (profile true) (λ l. FineSaid 0 (said_profile l))
+profile_back : Back profile (λ l. FineSaid 0 (said_profile l))
 unfolding FineSaid
 profile_back = back_by (λ l h. (h, tt)) (counted_to_back length LengthOutOfRange (λ l. Unit {0}) few step_back)
   where
-    few : (l : List Step) (before rest : List ℕ) → Unit {0} → length l ≤ length (before ++ ((put_u64 (length l) ++ print_all (step true) l) ++ rest))
+    few : (l : List Step) (before rest : List ℕ) → Unit {0} → length l ≤ length (before ++ ((put_u64 (length l) ++ print_all step l) ++ rest))
     few l before rest h = simp length-append (omega (arith, steps_few l))
 
 -- A format's bytes alone
@@ -117,7 +118,7 @@ module _ {A : Type 0} {f : Format A} {P : A → Type 0} (F : Back f P) (a : A) (
 -- two fields and a text to the end
 to_end_lem : {A B : Type 0} {f : Format A} {g : Format B} {P : A → Type 0} {Q : B → Type 0} → Back f P → Back g Q
     → (a : A) (b : B) (x : List ℕ) → P a → Q b → utf8 x ≡ true
-    → (f ⊗ g ⊗ to_end true).read (f.print a ++ (g.print b ++ x)) 0 ≡ Ok ((a, (b, x)), length (f.print a ++ (g.print b ++ x)))
+    → (f ⊗ g ⊗ to_end).read (f.print a ++ (g.print b ++ x)) 0 ≡ Ok ((a, (b, x)), length (f.print a ++ (g.print b ++ x)))
 to_end_lem {f = f} {g = g} F G a b x p q u =
     let y : List ℕ = f.print a in
     let z : List ℕ = g.print b in
@@ -126,35 +127,35 @@ to_end_lem {f = f} {g = g} F G a b x p q u =
     let e₃ : drop (length y + length z) (y ++ (z ++ x)) ≡ x = rw (drop-append-add, drop-append_seam) in
     rw (e₁, e₂, e₃, u)
 
-page_read : (m : Page) → FineSaid 0 (said_page m) → read_page true ((page true).print m) ≡ Ok (m, length ((page true).print m))
+page_read : (m : Page) → FineSaid 0 (said_page m) → read_page (page.print m) ≡ Ok (m, length (page.print m))
 unfolding FineSaid read_page
 page_read m h =
     ap (λ (g : Got (ℕ × (List ℕ × List ℕ))). then g (λ c q. Ok (to_page c, q)))
     (to_end_lem (fixed_back 8) raw_back m.limit m.cursor m.query h.0 h.1 h.2.1)
 
 -- how deep descriptors may nest is no matter of printing
-predicates_same : (limit : ℕ) (l : List Predicate) → print_all (predicate true 0) l ≡ print_all (predicate true limit) l
+predicates_same : (limit : ℕ) (l : List Predicate) → print_all (predicate 0) l ≡ print_all (predicate limit) l
 unfolding print_all
 predicates_same limit [] = refl
 predicates_same limit (p ∷ l) = rw (value_same p.value, predicates_same limit l)
   where
-    value_same : (v : Optional (Tree (List ℕ))) → print_optional (descriptor true 0) v ≡ print_optional (descriptor true limit) v
+    value_same : (v : Optional (Tree (List ℕ))) → print_optional (descriptor 0) v ≡ print_optional (descriptor limit) v
     value_same absent = refl
     value_same (present t) = refl
 
 -- a payload that is not too long is read as its entry says
-read_at : (max limit entry : ℕ) (s : List ℕ) (g : Got Said) → length s ≤ max → read_entry true limit entry s ≡ g → read_message true max limit entry s ≡ g
+read_at : (max limit entry : ℕ) (s : List ℕ) (g : Got Said) → length s ≤ max → read_entry limit entry s ≡ g → read_message max limit entry s ≡ g
 unfolding read_message
 read_at max limit entry s g h e = rw (le-ltb max (length s) h) (go (ltb 0 entry) (leb entry 12))
   where
-    go : (a b : Bool) → pick (a && b && false) (Err (BlockTooLarge (length s) max)) (read_entry true limit entry s) ≡ g
+    go : (a b : Bool) → pick (a && b && false) (Err (BlockTooLarge (length s) max)) (read_entry limit entry s) ≡ g
     go true true = e
     go true false = e
     go false b = e
 
 -- What is printed of a message that is fine is read as that message, by the number that its frame tells.
 pub read_printed : (max limit : ℕ) (m : Said) → FineSaid limit m → length (print_said m) ≤ max
-    → read_message true max limit (entry_of m) (print_said m) ≡ Ok (m, length (print_said m))
+    → read_message max limit (entry_of m) (print_said m) ≡ Ok (m, length (print_said m))
 unfolding FineSaid read_entry print_said entry_of read_startup read_ready read_error read_complete read_ids read_types read_control read_reply read_profile read_page read_fetch read_listing
 read_printed max limit (said_startup m) h l =
     read_at max limit 1 _ _ l (ap (saying said_startup) (whole_versioned startup_back m h (λ m. m.version) h.0))

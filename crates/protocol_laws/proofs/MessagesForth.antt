@@ -11,8 +11,7 @@ use Rattle.varint.specs.Choice.{pick}
 use Rattle.varint.specs.Got.{Got}
 use Rattle.varint.specs.Formats.{Format, fixed, ◌⊗◌}
 use Rattle.varint.specs.RoundTrips.{Bytes, Forth}
-use Rattle.varint.specs.declared.error.Mismatch.TheVariants.{Version}
-use Rattle.varint.specs.declared.error.Refusal.TheVariants.{TypeMismatch, BlockTooLarge, BadListingPredicate}
+use Rattle.varint.specs.declared.error.Refusal.TheVariants.{BlockTooLarge, BadListingPredicate}
 use Rattle.varint.proofs.FormatForth.{varint_forth, fixed_forth, name_forth, pair_forth, named_forth, counted_forth}
 use Rattle.varint.proofs.FormatParts.{went, pair_went, named_went}
 use Rattle.varint.proofs.Gots.{got_of}
@@ -24,19 +23,19 @@ use Rattle.protocol.specs.Page.{Page, to_page, from_page, page, read_page}
 use Rattle.protocol.specs.Ready.{Ready, to_ready, from_ready, ready, read_ready}
 use Rattle.protocol.specs.Said.{Said, said_startup, said_ready, said_complete, said_page, said_fetch, said_listing, saying, read_entry, read_message, print_said}
 use Rattle.protocol.specs.Startup.{Startup, to_claim, from_claim, claim, to_startup, from_startup, startup, read_startup}
-use Rattle.protocol.specs.Wholes.{ended, versioned}
 use Rattle.protocol_laws.specs.Canonical as Canon
 use Rattle.protocol_laws.specs.Canonical.{Canonical}
-use Rattle.protocol.proofs.FieldEnds.{spared, passed}
-use Rattle.protocol_laws.proofs.FieldsForth.{provided_forth, mode_forth, counted_to_forth, raw_forth, digest_forth, fact_forth, to_end_got, to_end_forth}
+use Rattle.protocol.proofs.FieldEnds.{spared, to_end_got}
+use Rattle.protocol.proofs.WholeLaws.{Whole, ended_got, versioned_got}
+use Rattle.protocol_laws.proofs.FieldsForth.{provided_forth, mode_forth, counted_to_forth, raw_forth, digest_forth, fact_forth, to_end_forth}
 use Rattle.std.specs.Prelude.{Ok, Err}
 
 -- The formats
 
-claim_forth : Forth (claim true)
+claim_forth : Forth claim
 claim_forth = named_forth to_claim from_claim (λ c. refl) (pair_forth name_forth varint_forth)
 
-startup_forth : Forth (startup true)
+startup_forth : Forth startup
 startup_forth =
     named_forth to_startup from_startup (λ c. refl)
     (pair_forth varint_forth (pair_forth name_forth (pair_forth mode_forth (pair_forth varint_forth (counted_forth claim_forth)))))
@@ -47,8 +46,8 @@ ready_forth = named_forth to_ready from_ready (λ c. refl) (pair_forth varint_fo
 complete_forth : Forth complete
 complete_forth = named_forth to_complete from_complete (λ c. refl) (pair_forth varint_forth varint_forth)
 
-page_forth : Forth (page true)
-page_forth = named_forth to_page from_page (λ c. refl) (pair_forth (fixed_forth 8) (pair_forth raw_forth (to_end_forth true)))
+page_forth : Forth page
+page_forth = named_forth to_page from_page (λ c. refl) (pair_forth (fixed_forth 8) (pair_forth raw_forth to_end_forth))
 
 fetch_forth : Forth fetch
 fetch_forth = named_forth to_fetch from_fetch (λ c. refl) (pair_forth digest_forth (counted_to_forth (λ _. max_fetch) BlockTooLarge fact_forth))
@@ -59,47 +58,27 @@ listing_forth =
 
 -- Whole payloads
 
--- f reads all of s as a
-pub record Whole {A : Type 0} (f : Format A) (s : List ℕ) (a : A) : Type 0 where
-  pub next : ℕ
-  pub read : f.read s 0 ≡ Ok (a, next)
-  pub end : length s ≤ next
-
 -- so s is how a is printed
 whole_print : {A : Type 0} {f : Format A} {s : List ℕ} {a : A} → Forth f → Whole f s a → Bytes s → f.print a ≡ s
 whole_print {f = f} {s = s} {a = a} F w B =
     let i = F.forth s 0 a w.next B (omega arith) w.read in
     sym (i.bytes ∙ rw (drop_of_length-le s w.end) (append-nil (f.print a)))
 
--- what is left over was nothing
-pub ended_got : {A : Type 0} (f : Format A) (s : List ℕ) (a : A) (q : ℕ) → ended s (f.read s 0) ≡ Ok (a, q) → Whole f s a
-ended_got f s a q e =
-    let y = went (f.read s 0) _ a q e in
-    let z = spared (ltb y.next (length s)) _ _ y.rest in
-    let w = got_of z.1 in
-    record { next = q; read = y.first ∙ z.1; end = rw (← w.1) (ltb-false y.next (length s) z.0) }
-
--- nor was the version too wide
-pub versioned_got : {A : Type 0} (f : Format A) (version : A → ℕ) (s : List ℕ) (a : A) (q : ℕ)
-    → versioned version (ended s (f.read s 0)) ≡ Ok (a, q) → Whole f s a
-versioned_got f version s a q e =
-    ended_got f s a q (passed (ended s (f.read s 0)) (λ c. narrow (version c)) (λ _. TypeMismatch Version) a q e).0
-
 -- a query takes the rest
-page_got : (s : List ℕ) (a : Page) (q : ℕ) → (page true).read s 0 ≡ Ok (a, q) → Whole (page true) s a
+page_got : (s : List ℕ) (a : Page) (q : ℕ) → page.read s 0 ≡ Ok (a, q) → Whole page s a
 page_got s a q e =
-    let x = named_went to_page from_page (fixed 8 ⊗ raw ⊗ to_end true) s 0 a q e in
-    let y = pair_went (fixed 8) (raw ⊗ to_end true) s 0 x.value q x.read in
-    let z = pair_went raw (to_end true) s y.next x.value.1 q y.second in
-    let w = (to_end_got true s z.next x.value.1.1 q z.second).1 in
+    let x = named_went to_page from_page (fixed 8 ⊗ raw ⊗ to_end) s 0 a q e in
+    let y = pair_went (fixed 8) (raw ⊗ to_end) s 0 x.value q x.read in
+    let z = pair_went raw to_end s y.next x.value.1 q y.second in
+    let w = (to_end_got s z.next x.value.1.1 q z.second).1 in
     record { next = q; read = e; end = omega arith }
 
 -- what a payload says, where it has one encoding
 pub data ReadAs (s : List ℕ) : Said → Type 0 where
-  as_startup : (m : Startup) → Whole (startup true) s m → ReadAs s (said_startup m)
+  as_startup : (m : Startup) → Whole startup s m → ReadAs s (said_startup m)
   as_ready : (m : Ready) → Whole ready s m → ReadAs s (said_ready m)
   as_complete : (m : Complete) → Whole complete s m → ReadAs s (said_complete m)
-  as_page : (m : Page) → Whole (page true) s m → ReadAs s (said_page m)
+  as_page : (m : Page) → Whole page s m → ReadAs s (said_page m)
   as_fetch : (m : Fetch) → Whole fetch s m → ReadAs s (said_fetch m)
   as_listing : (m : Listing) → Whole listing s m → ReadAs s (said_listing m)
 
@@ -110,10 +89,10 @@ read_as max to x s m q k e =
     let w = got_of y.rest in
     rw (← w.0) (k y.value (y.first ∙ rw w.1 refl))
 
-pub read_whole : (max limit entry : ℕ) (s : List ℕ) (m : Said) (q : ℕ) → Canonical entry → read_message true max limit entry s ≡ Ok (m, q) → ReadAs s m
+pub read_whole : (max limit entry : ℕ) (s : List ℕ) (m : Said) (q : ℕ) → Canonical entry → read_message max limit entry s ≡ Ok (m, q) → ReadAs s m
 unfolding read_message read_entry read_startup read_ready read_complete read_page read_fetch read_listing
 read_whole max limit entry s m q Canon.startup =
-    read_as max said_startup _ s m q (λ a r. as_startup a (versioned_got (startup true) (λ c. c.version) s a q r))
+    read_as max said_startup _ s m q (λ a r. as_startup a (versioned_got startup (λ c. c.version) s a q r))
 read_whole max limit entry s m q Canon.ready = read_as max said_ready _ s m q (λ a r. as_ready a (versioned_got ready (λ c. c.version) s a q r))
 read_whole max limit entry s m q Canon.complete = read_as max said_complete _ s m q (λ a r. as_complete a (ended_got complete s a q r))
 read_whole max limit entry s m q Canon.page = read_as max said_page _ s m q (λ a r. as_page a (page_got s a q r))
@@ -129,7 +108,7 @@ canonical_known Canon.page = refl
 canonical_known Canon.fetch = refl
 canonical_known Canon.listing = refl
 
-pub read_short : (max limit entry : ℕ) (s : List ℕ) (m : Said) (q : ℕ) → Canonical entry → read_message true max limit entry s ≡ Ok (m, q)
+pub read_short : (max limit entry : ℕ) (s : List ℕ) (m : Said) (q : ℕ) → Canonical entry → read_message max limit entry s ≡ Ok (m, q)
     → length s ≤ max
 unfolding read_message
 read_short max limit entry s m q c e =
@@ -146,6 +125,6 @@ print_as (as_fetch m w) B = whole_print fetch_forth w B
 print_as (as_listing m w) B = whole_print listing_forth w B
 
 -- A payload of one of these messages that is read is how the message is printed: no other bytes say the same.
-pub print_read : (max limit entry : ℕ) (s : List ℕ) (m : Said) (q : ℕ) → read_message true max limit entry s ≡ Ok (m, q) → Canonical entry → Bytes s
+pub print_read : (max limit entry : ℕ) (s : List ℕ) (m : Said) (q : ℕ) → read_message max limit entry s ≡ Ok (m, q) → Canonical entry → Bytes s
     → print_said m ≡ s
 print_read max limit entry s m q e c B = print_as (read_whole max limit entry s m q c e) B

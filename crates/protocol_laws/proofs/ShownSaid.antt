@@ -24,9 +24,9 @@ use Rattle.protocol.specs.Said.{Said, said_startup, said_ready, said_error, said
 use Rattle.protocol.specs.Startup.{Claim, lay_claim, lay_startup}
 use Rattle.protocol.specs.Types.{Predicate, has_value, lay_value, lay_predicate, lay_types}
 use Rattle.protocol.specs.declared.message.ControlOp.TheVariants.{Create, Finish, Remove}
-use Rattle.protocol.proofs.RowEnds.{predicate_nodes}
+use Rattle.protocol.proofs.RowEnds.{predicate_nodes, predicate_rows}
 use Rattle.protocol_laws.specs.Shown.{Entry, number, text, Shown, bare, rowed, digest_shown, lengths, numbers, text_needed, rows_needed, nodes_needed}
-use Rattle.protocol_laws.proofs.HeldRows.{rows_length, nodes_length, predicate_rows}
+use Rattle.protocol.proofs.PieceLaws.{rows_length, many_seven}
 use Rattle.std.specs.Prelude.{Some, None, Option}
 
 -- a text with these bytes
@@ -255,7 +255,7 @@ types_need l =
     let b = each_rows type_size predicate_said 6 (λ p n. refl) l 0 in
     let c = rows_length lay_predicate 6 predicate_rows l 0 0 in
     let d = each_nodes type_size type_said lay_predicate type_numbers_lem l 0 in
-    let e = nodes_length lay_predicate predicate_nodes l 0 0 in
+    let e = many_seven lay_predicate predicate_nodes l 0 0 in
     (omega arith, b ∙ sym c, d ∙ sym e)
 
 digest_lengths : (d : Option ℕ) (l : List Entry) → lengths (digest_shown d ++ l) ≡ lengths l

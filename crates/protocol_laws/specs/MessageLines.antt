@@ -1,5 +1,5 @@
 -- "Bytes to try": the lines about messages, behind those of the layers below.
-use Rattle.std.specs.Prelude.{true, List, [], ◌∷◌, ◌++◌, ℕ, Ok, Err, Some, None, Option}
+use Rattle.std.specs.Prelude.{List, [], ◌∷◌, ◌++◌, ℕ, Ok, Err, Some, None, Option}
 use Rattle.varint.specs.Got.{Got}
 use Rattle.varint.specs.Tried.{Line, refused_in}
 use Rattle.desc.specs.Tried.{desc_lines}
@@ -48,7 +48,7 @@ message_in (Ok (m, next)) = 0 ∷ fields_in (lay m).message
 message_in (Err r) = refused_in r
 
 abbrev pub message_line : ℕ → List ℕ → List ℕ → Line
-message_line entry bytes answer = record { reader = λ s. message_in (read_message true 67108864 64 entry s); bytes = bytes; answer = answer }
+message_line entry bytes answer = record { reader = λ s. message_in (read_message 67108864 64 entry s); bytes = bytes; answer = answer }
 
 unfoldable pub message_lines : List Line
 message_lines =

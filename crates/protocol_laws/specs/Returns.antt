@@ -3,7 +3,8 @@ use Rattle.std.specs.Prelude.{true, ◌≡◌, refl, List, [], ◌∷◌, ℕ, �
 use Rattle.std.proofs.Common.{arith, lit<}
 use Rattle.varint.specs.Gathering.{held, text_held, name_held}
 use Rattle.varint.specs.Leb128.{read_from, get_u64, put_by, put_u64}
-use Rattle.varint.specs.Outs.{wrote, send}
+use Rattle.varint.specs.Lent.{Left, kept, fitted, settled}
+use Rattle.varint.specs.Outs.{wrote, send, sent}
 use Rattle.varint.specs.RoundTrips.{Bytes}
 use Rattle.varint.specs.Stores.{part, filled}
 use Rattle.varint.specs.Texts.{skim_text, get_text, get_name}
@@ -11,8 +12,8 @@ use Rattle.varint.specs.Utf8.{utf8, scan, lead}
 use Rattle.varint.specs.declared.error.Buffer.TheVariants.{Text, Rows, Nodes}
 use Rattle.varint.specs.declared.error.Refusal.TheVariants.{TooSmall}
 use Rattle.protocol.specs.Control.{read_control, lay_control, held_control}
-use Rattle.protocol.specs.Decoding.{Left, kept, fitted, settled, decode_message}
-use Rattle.protocol.specs.Encoding.{held_said, sent, encode_message}
+use Rattle.protocol.specs.Decoding.{taken_by, decode_message}
+use Rattle.protocol.specs.Encoding.{held_said, encode_message}
 use Rattle.protocol.specs.Said.{Said, read_entry, read_message, print_said, lay, entry_of}
 use Rattle.protocol.specs.declared.message.ControlOp.TheVariants.{Finish}
 use Rattle.protocol.specs.declared.message.Message.{Message}
@@ -28,7 +29,7 @@ pub record Cleared (b : List ℕ) (needed : ℕ) (b' : List ℕ) : Type 0 where
 
 -- What decoding into the buffers t, r and k must leave of a message that showed s: "last 16 for text, rows, nodes in that order, exactly when the read
 -- message needs more than was lent", and "Refused: nothing written"; where they suffice, a message that shows the same, and then zeros.
-pub data Leaves (s : Shown) (t r k : List ℕ) : Left → Type 0 where
+pub data Leaves (s : Shown) (t r k : List ℕ) : Left Message → Type 0 where
   text_short : length t < text_needed s → Leaves s t r k (kept (TooSmall Text (text_needed s)) t r k)
   rows_short : text_needed s ≤ length t → length r < rows_needed s → Leaves s t r k (kept (TooSmall Rows (rows_needed s)) t r k)
   nodes_short : text_needed s ≤ length t → rows_needed s ≤ length r → length k < nodes_needed s
@@ -65,7 +66,7 @@ pub record Returned (max limit : ℕ) (message : Message) (tx rs nd x : List ℕ
   pub said : Said
   pub holds : held_said limit message tx rs nd ≡ held said
   pub bytes : x ≡ print_said said
-  pub decodes : (t r k : List ℕ) → decode_message max limit (entry_of said) x t r k ≡ fitted (lay said) t r k
+  pub decodes : (t r k : List ℕ) → decode_message max limit (entry_of said) x t r k ≡ fitted (lay said).message (taken_by (lay said)) t r k
 
 abbrev pub LayoutReturns : (max limit : ℕ) → Type 0
 LayoutReturns max limit =

@@ -1,6 +1,6 @@
 use Rattle.std.proofs.lemmas.Result.{err_from_is_err_and}
 use Rattle.protocol.specs.Entries.{entry_number}
-use Rattle.protocol.proofs.DecodeLaws.{too_short, long_enough, decode_refused, decode_short_text, decode_short_rows, decode_short_nodes, decode_none, decode_done, all_none}
+use Rattle.protocol.proofs.DecodeLaws.{too_short, long_enough, decode_refused, decode_short_text, decode_short_rows, decode_short_nodes, decode_none, decode_again, decode_done, all_none}
 use Rattle.protocol.proofs.decode_fitting.Goals as goal
 
 pub returns-in_err-message : goal.returns-in_err-message
@@ -8,6 +8,11 @@ returns-in_err-message c =
     let a = c.args in
     let p = err_from_is_err_and c.from_residual.result c.from_residual.ensures.1 in
     rw (p.1, p.2) (decode_refused a.max a.limit (entry_number a.entry) a.payload.now a.text.now a.rows.now a.nodes.now c.requires.1 c.read_into.ensures c.in_err-message.was)
+
+pub read_into-requires-2-clause-again : goal.read_into-requires-2-clause-again
+read_into-requires-2-clause-again c =
+    let a = c.args in
+    decode_again a.max a.limit (entry_number a.entry) a.payload.now a.text.now a.rows.now a.nodes.now c.requires.1 c.read_into.ensures c.in_ok-message.was
 
 pub returns-in_err-room : goal.returns-in_err-room
 returns-in_err-room c =

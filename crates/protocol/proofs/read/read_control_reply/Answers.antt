@@ -4,7 +4,8 @@ use Rattle.protocol.specs.Inner.Loading.{mem, laid_as}
 use Rattle.protocol.specs.Reply.{lay_reply}
 use Rattle.protocol.proofs.Knows.{known_is}
 use Rattle.protocol.proofs.MessageFields.{reply_on_lem, finished_same}
-use Rattle.protocol.proofs.MessageReads.{bare_into, finished_bare, ended_read, flat_laid}
+use Rattle.protocol.proofs.MessageReads.{bare_into, finished_bare, laid_read}
+use Rattle.protocol.proofs.WholeLaws.{ended_read}
 use Rattle.protocol.proofs.PieceLaws.{put_none}
 use Rattle.protocol.proofs.read.read_control_reply.Goals as goal
 
@@ -13,8 +14,8 @@ returns-in-Finish c =
     let s = c.args.s.now in
     let m = c.args.memory.now in (
       (refl, refl, refl),
-      rw (reply_on_lem m.check s (sym (known_is op_of _ _ c.read_known.ensures) ∙ c.in_ok-op.was), c.in-Finish.is, finished_same m.check s _)
-          (bare_into s (mem m) _ c.requires.2 (finished_bare s _) c.read_finished.ensures),
+      rw (reply_on_lem s (sym (known_is op_of _ _ c.read_known.ensures) ∙ c.in_ok-op.was), c.in-Finish.is, finished_same s _)
+          (bare_into (mem m) _ _ (finished_bare s _) c.read_finished.ensures),
     )
 
 pub returns-in_ok-at_end-in-Remove : goal.returns-in_ok-at_end-in-Remove
@@ -23,6 +24,6 @@ returns-in_ok-at_end-in-Remove c =
     let s = c.args.s.now in
     let m = c.args.memory.now in (
       (refl, refl, refl),
-      rw (reply_on_lem m.check s (sym (known_is op_of _ _ c.read_known.ensures) ∙ c.in_ok-op.was), c.in-Remove.is)
-          (flat_laid s (ap (laid_as lay_reply) (ended_read s refl c.at_end.ensures c.in_ok-at_end-in-Remove.was)) (mem m) (mem m) refl (sym (put_none (mem m))) refl c.requires.2),
+      rw (reply_on_lem s (sym (known_is op_of _ _ c.read_known.ensures) ∙ c.in_ok-op.was), c.in-Remove.is)
+          (laid_read (ap (laid_as lay_reply) (ended_read s refl c.at_end.ensures c.in_ok-at_end-in-Remove.was)) (mem m) (mem m) refl (sym (put_none (mem m)))),
     )

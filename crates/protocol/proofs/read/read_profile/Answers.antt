@@ -6,27 +6,27 @@ use Rattle.protocol.specs.Profile.{read_profile, lay_profile}
 use Rattle.protocol.specs.declared.message.Message.TheVariants as Msg
 use Rattle.protocol.specs.declared.message.RowKind.TheVariants as K
 use Rattle.protocol.proofs.MessageFields.{profile_read}
-use Rattle.protocol.proofs.MessageReads.{ended_refused, ended_read, reads_refused, laid_read}
-use Rattle.protocol.proofs.RowMessages.{rows_went, no_rows, few}
+use Rattle.protocol.proofs.MessageReads.{laid_refused, laid_read}
+use Rattle.protocol.proofs.WholeLaws.{ended_refused, ended_read}
+use Rattle.protocol.proofs.RowMessages.{rows_went, no_rows}
 use Rattle.protocol.proofs.read.read_profile.Goals as goal
 
 pub returns-in_err-end : goal.returns-in_err-end
 unfolding read_profile
 returns-in_err-end c =
     let p = err_from_is_err_and c.from_residual-in_err-end.result c.from_residual-in_err-end.ensures.1 in
-    let n = no_rows K.Step _ _ _ (mem c.args.memory.now) _ c.read_rows.ensures.0.1 c.in_err-end.was in
-    rw (p.1, p.2) (c.read_rows.ensures.0.0, reads_refused (rw ((sym c.get_u64.ensures ∙ c.in_ok-steps.was), le-ltb _ _ c.if-length-steps.false, n)))
+    let n = no_rows K.Step _ _ _ _ _ _ c.read_rows.ensures.1 c.in_err-end.was in
+    rw (p.1, p.2) (c.read_rows.ensures.0, laid_refused _ _ (rw ((sym c.get_u64.ensures ∙ c.in_ok-steps.was), le-ltb _ _ c.if-length-steps.false, n)))
 
 pub returns-in_err-at_end : goal.returns-in_err-at_end
 unfolding read_profile
 returns-in_err-at_end c =
     let s = c.args.s.now in
-    let m = mem c.args.memory.now in
     let p = err_from_is_err_and c.from_residual-in_err-at_end.result c.from_residual-in_err-at_end.ensures.1 in
-    let w = rows_went K.Step _ _ _ m _ c.read_rows.ensures.0.1 c.in_ok-end.was in
+    let w = rows_went K.Step _ _ _ _ _ _ c.read_rows.ensures.1 c.in_ok-end.was in
     rw (p.1, p.2) (
-      c.read_rows.ensures.0.0,
-      reads_refused (ap (laid_as lay_profile) (ended_refused s (profile_read m.check s (sym c.get_u64.ensures ∙ c.in_ok-steps.was) c.if-length-steps.false w.is) c.at_end.ensures c.in_err-at_end.was)),
+      c.read_rows.ensures.0,
+      laid_refused _ _ (ap (laid_as lay_profile) (ended_refused s (profile_read s (sym c.get_u64.ensures ∙ c.in_ok-steps.was) c.if-length-steps.false w.is) c.at_end.ensures c.in_err-at_end.was)),
     )
 
 pub returns : goal.returns
@@ -34,8 +34,8 @@ unfolding read_profile lay_profile
 returns c =
     let s = c.args.s.now in
     let m = mem c.args.memory.now in
-    let w = rows_went K.Step _ _ _ m _ c.read_rows.ensures.0.1 c.in_ok-end.was in (
-      c.read_rows.ensures.0.0,
-      laid_read s (ap (laid_as lay_profile) (ended_read s (profile_read m.check s (sym c.get_u64.ensures ∙ c.in_ok-steps.was) c.if-length-steps.false w.is) c.at_end.ensures c.in_ok-at_end.was))
-          m _ (ap Msg.Profile w.counted) w.left (few s _ c.read_rows.ensures.1 c.in_ok-end.was),
+    let w = rows_went K.Step _ _ _ m _ _ c.read_rows.ensures.1 c.in_ok-end.was in (
+      c.read_rows.ensures.0,
+      laid_read (ap (laid_as lay_profile) (ended_read s (profile_read s (sym c.get_u64.ensures ∙ c.in_ok-steps.was) c.if-length-steps.false w.is) c.at_end.ensures c.in_ok-at_end.was))
+          m _ (ap Msg.Profile w.counted) w.left,
     )
