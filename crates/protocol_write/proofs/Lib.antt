@@ -4,9 +4,11 @@ pub mod NodeChecks
 pub mod Printing
 pub mod RowLoops
 pub mod RowPrints
+pub mod RowsFine
 pub mod RowsLaid
 pub mod RowsSame
 pub mod Sends
 pub mod TextChecks
+pub mod TypeSizes
 pub mod Verdicts
 pub mod WriteSteps

@@ -40,7 +40,7 @@ use Rattle.protocol.specs.declared.message.Message.TheVariants as Msg
 use Rattle.protocol.specs.declared.message.Mode.{Mode}
 use Rattle.protocol.specs.declared.message.RowKind.TheVariants as K
 use Rattle.varint.specs.declared.text.Span.{Span}
-use Rattle.protocol_write.specs.Inner.Writing.{put_two, put_counted, put_tagged, put_startup, put_control, put_finished, put_reply, put_page, put_digest, put_message}
+use Rattle.protocol_write.specs.Inner.Writing.{put_two, put_counted, put_tagged, put_startup, put_control, put_finished, put_reply, put_page, put_digest, put_head, put_body, put_message}
 use Rattle.protocol_write.proofs.Printing.{took, held_same, Prints, prints_then, prints_number, prints_two, prints_byte, prints_flag, prints_fixed, fixed_same, prints_text}
 use Rattle.protocol_write.proofs.RowPrints.{claim_prints, step_prints, id_prints, pair_prints, type_prints, counted_prints}
 use Rattle.varint.proofs.Basics.{never}
@@ -81,7 +81,7 @@ name_prints : (tx : List ℕ) (start len : ℕ) (x : List ℕ) → name_held tx 
 name_prints tx start len x e = let n : NameIs tx start len (held x) = rw e at (name_is tx start len) in record { stores = λ s h. n.1 s }
 
 error_prints : (code : ErrorCode) (span : Span) (tx : List ℕ) (m : Error) → held_error code span tx ≡ held m
-    → Prints (put_tagged (error_byte code) span tx) ((error true).print m)
+    → Prints (put_tagged (error_byte code) span tx) (error.print m)
 unfolding held_error name_held
 error_prints code span tx m e =
     let a = took (text_held tx span.start span.len) (λ x. held (record { code = code; text = x })) m e in
@@ -89,7 +89,7 @@ error_prints code span tx m e =
     rw (← q) (tagged_prints (error_byte code) span tx a.value a.is)
 
 control_prints : (op : ControlOp) (database : Span) (allow : Bool) (schema : Span) (tx : List ℕ) (m : Control) → held_control op database allow schema tx ≡ held m
-    → Prints (put_control op database allow schema tx) ((control true).print m)
+    → Prints (put_control op database allow schema tx) (control.print m)
 unfolding held_control put_control put_tagged name_held
 control_prints op database allow schema tx m e =
     let a =
@@ -120,7 +120,7 @@ reply_prints (R.Finished fingerprint facts bytes complete) tx m e =
 reply_prints R.Removed tx m e = let q : removed ≡ m = held_same e in rw (← q) (prints_byte (op_byte Remove))
 
 page_prints : (most : ℕ) (cursor query : Span) (tx : List ℕ) (m : Page) → held_page most cursor query tx ≡ held m
-    → Prints (put_page most cursor query tx) ((page true).print m)
+    → Prints (put_page most cursor query tx) (page.print m)
 unfolding held_page put_page name_held
 page_prints most cursor query tx m e =
     let a =
@@ -150,7 +150,7 @@ three_prints u v w = prints_then (prints_number u) (prints_then (prints_number v
 module _ (limit : ℕ) (tx rs nd : List ℕ) where
   startup_prints : (version : ℕ) (database : Span) (mode : Mode) (fingerprint count : ℕ) (m : Startup)
       → held_startup version database mode fingerprint count tx rs ≡ held m
-      → Prints (λ s. put_counted K.Claim limit tx rs nd count (put_startup version database mode fingerprint tx s)) ((startup true).print m)
+      → Prints (λ s. put_counted K.Claim limit tx rs nd count (put_startup version database mode fingerprint tx s)) (startup.print m)
   unfolding held_startup put_startup
   startup_prints version database mode fingerprint count m e =
       let N = name_held tx database.start database.len in
@@ -167,13 +167,13 @@ module _ (limit : ℕ) (tx rs nd : List ℕ) where
       (prints_then (prints_text tx database.start database.len a.value a.is)
       (prints_then (prints_byte (mode_byte mode))
       (prints_then (prints_number fingerprint)
-      (counted_prints (claim true) (held_claim tx rs) K.Claim limit tx rs nd (claim_prints limit tx rs nd) count b.value h.0 b.is)))))
+      (counted_prints claim (held_claim tx rs) K.Claim limit tx rs nd (claim_prints limit tx rs nd) count b.value b.is)))))
 
   ids_prints : (count : ℕ) (m : List ℕ) → held_ids count rs ≡ held m → Prints (put_counted K.Id limit tx rs nd count) (ids.print m)
   unfolding held_ids
   ids_prints count m e =
       let h = past_lack (ltb (length rs) (count * 1)) _ (held_times (held_id rs) 1 count 0) m e in
-      counted_prints varint (held_id rs) K.Id limit tx rs nd (id_prints limit tx rs nd) count m h.0 h.1
+      counted_prints varint (held_id rs) K.Id limit tx rs nd (id_prints limit tx rs nd) count m h.1
 
   profile_prints : (count : ℕ) (m : List Step) → held_profile count tx rs ≡ held m
       → Prints (put_counted K.Step limit tx rs nd count) (print_said (said_profile m))
@@ -182,7 +182,7 @@ module _ (limit : ℕ) (tx rs nd : List ℕ) where
       let L : Held (List Step) = held_times (held_step tx rs) 4 count 0 in
       let good = all_good (step_numbers rs) 4 count 0 in
       let h = past_lack (ltb (length rs) (count * 4)) _ (pick good L (lacks _)) m e in
-      counted_prints (step true) (held_step tx rs) K.Step limit tx rs nd (step_prints limit tx rs nd) count m h.0 (past_good good _ L m h.1)
+      counted_prints step (held_step tx rs) K.Step limit tx rs nd (step_prints limit tx rs nd) count m (past_good good _ L m h.1)
 
   types_prints : (count : ℕ) (m : List Predicate) → held_types limit count tx rs nd ≡ held m
       → Prints (put_counted K.Predicate limit tx rs nd count) (print_said (said_types m))
@@ -193,7 +193,7 @@ module _ (limit : ℕ) (tx rs nd : List ℕ) where
       let N = types_laid limit rs nd count 0 0 in
       let h = past_lack (ltb (length rs) (count * 6)) _ (pick good (then_held N (λ _. L)) (lacks _)) m e in
       let a = took N (λ _. L) m (past_good good _ (then_held N (λ _. L)) m h.1) in
-      counted_prints (predicate true 0) (held_predicate limit tx rs nd) K.Predicate limit tx rs nd (type_prints limit tx rs nd) count m h.0 a.rest
+      counted_prints (predicate 0) (held_predicate limit tx rs nd) K.Predicate limit tx rs nd (type_prints limit tx rs nd) count m a.rest
 
   fetch_prints : (digest : Option ℕ) (count : ℕ) (m : Fetch) → held_fetch digest count rs ≡ held m
       → Prints (λ s. put_counted K.Pair limit tx rs nd count (put_digest digest s)) (fetch.print m)
@@ -207,11 +207,11 @@ module _ (limit : ℕ) (tx rs nd : List ℕ) where
       let q : record { digest = digest; ids = a.value } ≡ m = held_same a.rest in
       rw (← q)
       (prints_then (digest_prints digest)
-      (counted_prints pair (held_id rs) K.Pair limit tx rs nd (pair_prints limit tx rs nd) count a.value h.0 a.is))
+      (counted_prints pair (held_id rs) K.Pair limit tx rs nd (pair_prints limit tx rs nd) count a.value a.is))
 
   -- the whole message
   pub write_said : (m : Message) (x : Said) → held_said limit m tx rs nd ≡ held x → Prints (put_message limit m tx rs nd) (print_said x)
-  unfolding held_said put_message print_said
+  unfolding held_said put_message put_head put_body print_said
   write_said (Msg.Startup version database mode fingerprint count) x e =
       said_prints said_startup (held_startup version database mode fingerprint count tx rs)
       (λ s. put_counted K.Claim limit tx rs nd count (put_startup version database mode fingerprint tx s))

@@ -8,6 +8,7 @@ use lib.ListN.{length, get_or}
 use borrow.Author.Tests.{eqb-true}
 use Rattle.varint.specs.Choice.{pick}
 use Rattle.varint.specs.Got.{Got}
+use Rattle.varint.specs.Inner.Again.{Accepted}
 use Rattle.varint.specs.Gathering.{Held, held, lacks, then_held}
 use Rattle.varint.specs.declared.error.Fault.TheVariants.{Layout}
 use Rattle.varint.specs.declared.error.Refusal.TheVariants.{BadMessage}
@@ -17,14 +18,16 @@ use Rattle.desc.specs.Encoding.{held_in}
 use Rattle.desc.specs.Layout.{NameSpan, tag_at, count_at, end_at}
 use Rattle.desc.specs.Table.{cell, node_fits, is_branch, kids_at, closed_at, table}
 use Rattle.desc.specs.Trees.{Tree, Kids}
-use Rattle.desc.proofs.GotAs.{GotAs, got_as}
+use Rattle.desc.specs.declared.write.Emitted.{Emitted}
+use Rattle.desc.proofs.Emitteds.{emitted_of}
+use Rattle.desc.proofs.GotAs.{GotAs}
 use Rattle.desc.proofs.NodeFits.{fits, leaf_row}
 use Rattle.desc.proofs.TableNames.{table_bad, table_verdict}
 use Rattle.desc.proofs.TableSound.{table_sound, some_size}
 use Rattle.protocol.specs.Fields.{yes}
 use Rattle.protocol.specs.Types.{node_after, type_laid, types_laid}
 use Rattle.protocol.specs.declared.message.RowKind.TheVariants.{Predicate}
-use Rattle.protocol_write.specs.Inner.Checking.{row_count, laid_as, LaidAt}
+use Rattle.protocol_write.specs.Inner.Checking.{row_count, sized_as}
 use Rattle.protocol_write.proofs.RowLoops.{head, others, count_next, none_left}
 use Rattle.protocol_write.proofs.RowsSame.{type_same, types_same}
 use Rattle.std.specs.Prelude.{Ok, Err, Result, Some, None}
@@ -49,20 +52,27 @@ table_end (suc d) nd n parent =
     (λ b. (leaf_row nd n parent (fits nd n parent f) b).end_is))
     (λ _. tt)
 
--- the names of a descriptor whose nodes are laid out
-module _ (nd : List ℕ) (limit n end : ℕ) (laid : LaidAt limit nd n) (last : end ≡ cell nd n end_at) where
-  read : table limit nd n 0 ≡ Ok (laid.tree, end)
-  read =
-      let e : cell nd n end_at ≡ laid.next = got_as (λ t e. cell nd n end_at ≡ e) (table limit nd n 0) laid.tree laid.next (table_end limit nd n 0) laid.is in
-      rw (last, e) laid.is
+-- a descriptor that is laid out and ends at node `end`
+record Read (limit : ℕ) (nd : List ℕ) (n end : ℕ) : Type 0 where
+  tree : Tree NameSpan
+  is : table limit nd n 0 ≡ Ok (tree, end)
+
+module _ (nd : List ℕ) (limit n end : ℕ) (laid : Accepted (table limit nd n 0)) (last : end ≡ cell nd n end_at) where
+  read : Read limit nd n end
+  read = go (table limit nd n 0) refl laid (table_end limit nd n 0)
+    where
+      go : (D : Got (Tree NameSpan)) → table limit nd n 0 ≡ D → Accepted D → Ends nd n D → Read limit nd n end
+      go (Ok (t, e)) i a w = record { tree = t; is = let q : end ≡ e = last ∙ w in rw (q, i) refl }
+      go (Err x) i a w = absurd a
 
   -- a descriptor has a node
   pub desc_inside : n < end
-  desc_inside = let q = (table_sound limit 0 nd n laid.tree end read).next in let o = some_size laid.tree in omega arith
+  desc_inside = let q = (table_sound limit 0 nd n read.tree end read.is).next in let o = some_size read.tree in omega arith
 
+  -- its names
   pub desc_names : (tx : List ℕ) (v : Result (Unit {0}) Refusal) → v ≡ names_from tx nd (n + 1) (end - (n + 1)) → v ≡ verdict (held_in (table limit nd n 0) tx)
   unfolding held_in
-  desc_names tx v names = rw read (names ∙ table_verdict tx nd limit n 0 end laid.tree read)
+  desc_names tx v names = rw read.is (names ∙ table_verdict tx nd limit n 0 end read.tree read.is)
 
 -- The layout of types
 
@@ -100,20 +110,21 @@ module _ (limit : ℕ) (nd : List ℕ) where
         rw (count_next Predicate rs x rest size is long whole, type_same limit nd n (head Predicate rs x rest size is long whole))
         (λ i. then_held (type_laid limit x nd 0 n) (λ m. types_same limit nd k (0 + 6) 0 m (others Predicate rs x rest size is long whole (k * 6)) i))
 
-    pub type_next : (n m : ℕ) → laid_as (type_laid limit x nd 0 n) ≡ Some m
-        → types_laid limit rs nd (row_count Predicate rs) 0 n ≡ types_laid limit rest nd (row_count Predicate rest) 0 m
-    unfolding laid_as
-    type_next n m h = laid_turn n ∙ go (type_laid limit x nd 0 n) h
+    pub type_next : (n size : ℕ) {e : Emitted} → sized_as (type_laid limit x nd 0 n) size ≡ Some e
+        → types_laid limit rs nd (row_count Predicate rs) 0 n ≡ types_laid limit rest nd (row_count Predicate rest) 0 e.next
+    unfolding sized_as
+    type_next n size {e} h = laid_turn n ∙ go (type_laid limit x nd 0 n) h
       where
-        go : (H : Held ℕ) → laid_as H ≡ Some m → then_held H (λ k. types_laid limit rest nd (row_count Predicate rest) 0 k) ≡ types_laid limit rest nd (row_count Predicate rest) 0 m
-        go (held k) e = let q : k ≡ m = cc in rw q
+        go : (H : Held ℕ) → sized_as H size ≡ Some e
+            → then_held H (λ k. types_laid limit rest nd (row_count Predicate rest) 0 k) ≡ types_laid limit rest nd (row_count Predicate rest) 0 e.next
+        go (held k) h = let q = emitted_of h in rw q.0
         go (lacks e) h = never cc
 
-    pub type_wrong : (n : ℕ) → laid_as (type_laid limit x nd 0 n) ≡ None → verdict (types_laid limit rs nd (row_count Predicate rs) 0 n) ≡ Err (BadMessage Layout)
-    unfolding laid_as verdict
-    type_wrong n h = ap verdict (laid_turn n) ∙ go (type_laid limit x nd 0 n) (type_layout limit x nd 0 n) h
+    pub type_wrong : (n size : ℕ) → sized_as (type_laid limit x nd 0 n) size ≡ None → verdict (types_laid limit rs nd (row_count Predicate rs) 0 n) ≡ Err (BadMessage Layout)
+    unfolding sized_as verdict
+    type_wrong n size h = ap verdict (laid_turn n) ∙ go (type_laid limit x nd 0 n) (type_layout limit x nd 0 n) h
       where
-        go : (H : Held ℕ) → LayoutOnly H → laid_as H ≡ None → verdict (then_held H (λ k. types_laid limit rest nd (row_count Predicate rest) 0 k)) ≡ Err (BadMessage Layout)
+        go : (H : Held ℕ) → LayoutOnly H → sized_as H size ≡ None → verdict (then_held H (λ k. types_laid limit rest nd (row_count Predicate rest) 0 k)) ≡ Err (BadMessage Layout)
         go (held k) l e = never cc
         go (lacks e) l h = rw l
 

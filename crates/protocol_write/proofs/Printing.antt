@@ -4,15 +4,15 @@ use mathlib.Core.Path.{◌≡◌, refl, ◌∙◌, ap}
 use mathlib.Core.List.{List, [], ◌∷◌, ◌++◌}
 use Prim.Native.Nat.{ℕ, zero, suc, ◌+◌}
 use lib.ListN.{length}
-use Rattle.varint.specs.Choice.{pick}
 use Rattle.varint.specs.Fixed.{put_le}
 use Rattle.varint.specs.Got.{Got}
 use Rattle.varint.specs.Formats.{Format, print_text, print_all}
 use Rattle.varint.specs.Gathering.{Held, held, lacks, then_held, name_held}
 use Rattle.varint.specs.Leb128.{put_by, put_u64}
-use Rattle.varint.proofs.Basics.{clash, never}
+use Rattle.varint.proofs.Basics.{never}
 use Rattle.desc.specs.Emitting.{Pen, put_bytes, put_number}
 use Rattle.desc.specs.Encoding.{held_in}
+use Rattle.desc.specs.Inner.Emission.{put_at}
 use Rattle.desc.specs.Layout.{NameSpan}
 use Rattle.desc.specs.Printing.{print}
 use Rattle.desc.specs.Trees.{Tree}
@@ -21,7 +21,7 @@ use Rattle.protocol.specs.Fields.{bit}
 use Rattle.protocol.specs.Rows.{width_of}
 use Rattle.protocol.specs.RowsHeld.{held_times}
 use Rattle.protocol.specs.declared.message.RowKind.{RowKind}
-use Rattle.protocol_write.specs.Inner.Writing.{put_byte, put_flag, put_fixed, put_two, put_text, put_at, put_row, put_rows}
+use Rattle.protocol_write.specs.Inner.Writing.{put_byte, put_flag, put_fixed, put_two, put_text, put_row, put_rows}
 use Rattle.std.specs.Prelude.{Ok, Err}
 
 -- what the memory holds, taken apart
@@ -80,11 +80,6 @@ prints_fixed w v = record { stores = λ s h. refl }
 
 pub fixed_same : (w : ℕ) {v u : ℕ} → v ≡ u → Prints (put_fixed w v) (put_le w u)
 fixed_same w {v} {u} e = rw e (prints_fixed w u)
-
--- what is only written where a test fails
-pub prints_past : (t : Bool) {w : Pen → Pen} {x : List ℕ} → t ≡ false → Prints w x → Prints (λ s. pick t s (w s)) x
-prints_past true e p = clash refl e
-prints_past false e p = p
 
 pub prints_text : (tx : List ℕ) (start len : ℕ) (x : List ℕ) → name_held tx start len ≡ held x → Prints (put_text tx start len) (print_text x)
 unfolding put_text

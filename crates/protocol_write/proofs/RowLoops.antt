@@ -2,22 +2,24 @@
 use mathlib.Core.Bool.{Bool, true, false, ◌&&◌}
 use mathlib.Core.Path.{◌≡◌, refl, sym, ap, ◌∙◌}
 use mathlib.Core.List.{List, ◌++◌}
-use Prim.Native.Nat.{ℕ, zero, suc, ◌+◌, ◌-◌, ◌*◌, ◌/◌, ◌≤◌, ◌<◌}
-use native.Mathlib.Nat.{mul-div_cancel, div-lt_iff_lt-mul, div-eq_of_lt, add-div_left, zero-add}
+use Prim.Native.Nat.{ℕ, zero, suc, ◌+◌, ◌-◌, ◌*◌, ◌≤◌, ◌<◌}
+use native.Mathlib.Nat.{mul-div_cancel, div-eq_of_lt, add-div_left, zero-add}
 use Rattle.std.proofs.Common.{add-one}
 use native.Mathlib.Omega.{arith}
 use lib.Dec.{ltb}
 use lib.ListN.{length, get_or, get_or-append, length-append}
 use Rattle.std.proofs.lemmas.List.{get_or-take, length-take-le, get_or-append-add}
-use borrow.Author.Tests.{lt-ltb, ltb-true, ltb-false}
+use borrow.Author.Tests.{ltb-false}
+use Rattle.varint.specs.declared.error.Fault.TheVariants.{RowCount}
 use Rattle.varint.specs.declared.error.Refusal.{Refusal}
-use Rattle.varint.proofs.Basics.{test}
+use Rattle.varint.specs.declared.error.Refusal.TheVariants.{BadMessage}
+use Rattle.varint.proofs.Basics.{test, never}
 use Rattle.desc.specs.Emitting.{Pen, then_names}
 use Rattle.protocol.specs.Rows.{width_of}
 use Rattle.protocol.specs.RowsHeld.{all_good}
 use Rattle.protocol.specs.declared.message.RowKind.{RowKind}
 use Rattle.protocol.specs.declared.message.RowKind.TheVariants.{Claim, Id, Predicate, Step, Pair}
-use Rattle.protocol_write.specs.Inner.Checking.{row_good, row_count, Cut, numbers_told, numbers_fine, row_names, rows_names}
+use Rattle.protocol_write.specs.Inner.Checking.{row_good, row_count, there, Cut, numbers_told, numbers_fine, row_names, rows_names}
 use Rattle.protocol_write.specs.Inner.Writing.{put_row, put_rows}
 use Rattle.protocol_write.proofs.RowsSame.{Same, good_same, named_same, put_same, all_good_same, names_same, puts_same}
 use Rattle.std.specs.Prelude.{Ok, Err}
@@ -29,18 +31,13 @@ width_some Predicate = omega arith
 width_some Step = omega arith
 width_some Pair = omega arith
 
--- by a division or by a product
-pub few_rows_lem : (kind : RowKind) (n count w : ℕ) → w ≡ width_of kind → ltb (n / w) count ≡ ltb n (count * width_of kind)
-few_rows_lem kind n count w e =
-    let p : 0 < w = rw e (width_some kind) in
-    rw (← e)
-    (test (ltb (n / w) count)
-    (λ h. rw (h, lt-ltb n (count * w) ((div-lt_iff_lt-mul p).0 (ltb-true (n / w) count h))))
-    (λ h.
-    let k : count ≤ n / w = ltb-false (n / w) count h in
-    test (ltb n (count * w))
-    (λ g. let l : n / w < count = (div-lt_iff_lt-mul p).1 (ltb-true n (count * w) g) in absurd (omega arith))
-    (λ g. rw (h, g))))
+-- rows that are there
+pub there_fits : (kind : RowKind) (rs : List ℕ) (count : ℕ) → there kind rs count ≡ Ok tt → count * width_of kind ≤ length rs
+unfolding there
+there_fits kind rs count h =
+    test (ltb (length rs) (count * width_of kind))
+    (λ e. let z : Err (BadMessage RowCount) ≡ Ok tt = rw e at h in never cc)
+    (λ e. ltb-false (length rs) (count * width_of kind) e)
 
 all_true : (good : ℕ → Bool) → ((r : ℕ) → good r ≡ true) → (n r v : ℕ) → all_good good v n r ≡ true
 unfolding all_good

@@ -8,6 +8,8 @@ use lib.ListN.{get_or}
 use borrow.Author.Tests.{eqb-true}
 use Rattle.varint.specs.Choice.{pick}
 use Rattle.varint.specs.Got.{Got}
+use Rattle.varint.specs.Inner.Again.{Accepted}
+use Rattle.varint.proofs.Agains.{accepted}
 use Rattle.varint.specs.Gathering.{Held, held, lacks}
 use Rattle.varint.proofs.Basics.{test, never}
 use Rattle.desc.specs.Emitting.{verdict}
@@ -19,7 +21,7 @@ use Rattle.protocol.specs.Rows.{width_of}
 use Rattle.protocol.specs.Types.{node_after, type_laid, types_laid}
 use Rattle.protocol.specs.declared.message.RowKind.{RowKind}
 use Rattle.protocol.specs.declared.message.RowKind.TheVariants.{Claim, Id, Predicate, Step, Pair}
-use Rattle.protocol_write.specs.Inner.Checking.{row_count, Cut, nodes_fine, LaidAt, value_root, ValueLaid, RowLaid}
+use Rattle.protocol_write.specs.Inner.Checking.{row_count, Cut, nodes_fine, value_root, ValueLaid, RowLaid}
 use Rattle.protocol_write.proofs.RowLoops.{head, others, count_next, cut_count, cut_same}
 use Rattle.protocol_write.proofs.RowsSame.{Same, row_same, rows_same, types_same}
 use Rattle.protocol_write.proofs.NodeChecks.{Ends, table_end}
@@ -33,11 +35,11 @@ module _ (limit : ℕ) (rs nd : List ℕ) where
   RowsLaid kind (suc left) r = RowLaid kind limit rs nd r × RowsLaid kind left (r + width_of kind)
 
   -- a tree that has a node after it
-  after_held : (n m : ℕ) → node_after (table limit nd n 0) ≡ held m → LaidAt limit nd n × (cell nd n end_at ≡ m)
+  after_held : (n m : ℕ) → node_after (table limit nd n 0) ≡ held m → Accepted (table limit nd n 0) × (cell nd n end_at ≡ m)
   after_held n m h = go (table limit nd n 0) refl h (table_end limit nd n 0)
     where
-      go : (D : Got (Tree NameSpan)) → table limit nd n 0 ≡ D → node_after D ≡ held m → Ends nd n D → LaidAt limit nd n × (cell nd n end_at ≡ m)
-      go (Ok (t, e)) i k l = let p : e ≡ m = cc in (record { tree = t; next = e; is = i }, l ∙ p)
+      go : (D : Got (Tree NameSpan)) → table limit nd n 0 ≡ D → node_after D ≡ held m → Ends nd n D → Accepted (table limit nd n 0) × (cell nd n end_at ≡ m)
+      go (Ok (t, e)) i k l = let p : e ≡ m = cc in (accepted i, l ∙ p)
       go (Err x) i k l = never cc
 
   -- a value whose root is node k, where the key at node n ends
@@ -118,8 +120,12 @@ module _ (limit : ℕ) (nd : List ℕ) where
     pub others_laid : RowsLaid limit rest nd kind (row_count kind rest) 0
     others_laid = (next_laid kind rs x rest size is long whole laid).1
 
--- the nodes of the first of all types
-pub cut_nodes : {rs : List ℕ} {count : ℕ} {part : List ℕ} → Cut Predicate rs count part → (limit : ℕ) (nd : List ℕ)
-    → nodes_fine Predicate limit part nd (row_count Predicate part) ≡ nodes_fine Predicate limit rs nd count
+-- the nodes of the first of all rows
+pub cut_nodes : {kind : RowKind} {rs : List ℕ} {count : ℕ} {part : List ℕ} → Cut kind rs count part → (limit : ℕ) (nd : List ℕ)
+    → nodes_fine kind limit part nd (row_count kind part) ≡ nodes_fine kind limit rs nd count
 unfolding nodes_fine
-cut_nodes {rs} {count} cut limit nd = rw (cut_count cut) (ap verdict (types_same limit nd count 0 0 0 (cut_same cut)))
+cut_nodes {kind = Claim} cut limit nd = refl
+cut_nodes {kind = Id} cut limit nd = refl
+cut_nodes {kind = Predicate} {count = count} cut limit nd = rw (cut_count cut) (ap verdict (types_same limit nd count 0 0 0 (cut_same cut)))
+cut_nodes {kind = Step} cut limit nd = refl
+cut_nodes {kind = Pair} cut limit nd = refl

@@ -12,7 +12,7 @@ use Rattle.protocol.specs.RowsHeld.{all_good}
 use Rattle.protocol.specs.Types.{type_numbers, type_laid, types_laid}
 use Rattle.protocol.specs.declared.message.RowKind.{RowKind}
 use Rattle.protocol.specs.declared.message.RowKind.TheVariants.{Claim, Id, Predicate, Step, Pair}
-use Rattle.protocol_write.specs.Inner.Checking.{row_good, row_names, rows_names}
+use Rattle.protocol_write.specs.Inner.Checking.{row_good, row_names, rows_names, fields_size, type_size, types_size}
 use Rattle.protocol_write.specs.Inner.Writing.{put_labelled, put_step, put_type, put_row, put_rows}
 
 -- n numbers of xs from place p on are those of rs from place q on
@@ -36,6 +36,10 @@ module _ {xs rs : List ℕ} {p q : ℕ} where
   pub type_same : (limit : ℕ) (nd : List ℕ) (n : ℕ) → Same 6 xs p rs q → type_laid limit xs nd p n ≡ type_laid limit rs nd q n
   unfolding type_laid
   type_same limit nd n s = rw (s.each 4 (omega arith), s.each 5 (omega arith))
+
+  pub size_same : (limit : ℕ) (nd : List ℕ) → Same 6 xs p rs q → type_size limit xs nd p ≡ type_size limit rs nd q
+  unfolding type_size fields_size
+  size_same limit nd s = rw (first (omega arith) s, s.each 2 (omega arith), s.each 4 (omega arith), s.each 5 (omega arith))
 
   pub named_same : (kind : RowKind) (limit : ℕ) (tx nd : List ℕ) → Same (width_of kind) xs p rs q → row_names kind limit tx xs nd p ≡ row_names kind limit tx rs nd q
   unfolding row_names
@@ -78,6 +82,11 @@ module _ {xs rs : List ℕ} where
   types_same limit nd zero p q m s = refl
   types_same limit nd (suc n) p q m s =
       rw (type_same limit nd m (row_same 6 n s)) (λ i. then_held (type_laid limit rs nd q m) (λ k. types_same limit nd n (p + 6) (q + 6) k (rows_same 6 n s) i))
+
+  pub sizes_same : (limit : ℕ) (nd : List ℕ) (n p q : ℕ) → Same (n * 6) xs p rs q → types_size limit xs nd n p ≡ types_size limit rs nd n q
+  unfolding types_size
+  sizes_same limit nd zero p q s = refl
+  sizes_same limit nd (suc n) p q s = rw (size_same limit nd (row_same 6 n s), sizes_same limit nd n (p + 6) (q + 6) (rows_same 6 n s))
 
   pub names_same : (kind : RowKind) (limit : ℕ) (tx nd : List ℕ) (n p q : ℕ) → Same (n * width_of kind) xs p rs q
       → rows_names kind limit tx xs nd n p ≡ rows_names kind limit tx rs nd n q

@@ -10,7 +10,6 @@ mod write;
 ghost use Rattle.std.specs.Prelude.{◌≡◌, ◌≤◌};
 ghost use Rattle.protocol.specs.Encoding.{encode_message};
 ghost use Rattle.protocol.specs.declared.message.Message.TheVariants as Msg;
-ghost use Rattle.protocol_write.specs.Inner.Writing.{size_of};
 
 use checks::check_message;
 use desc::{MAX_DEPTH, MAX_PAYLOAD};
@@ -21,23 +20,14 @@ use varint::error::{Buffer, Refusal};
 use varint::store::fill_from;
 use write::write_message;
 
-// How many bytes the message has; 2^64−1 stands for more as well.
-#[tactic(auto, unfolding(crate::specs::Inner::Writing::size_of))]
-fn size_message(message: &Message, lent: &Lent<'_>) -> usize
-    ensures { result ≡ size_of lent.now.limit message.now lent.now.text.now lent.now.rows.now lent.now.nodes.now }
-{
-    write_message(message, lent, &mut [])
-}
-
 // The longest payload and the depth of descriptors are parameters, so that it is proved for any. A size of 2^64−1 may stand for a greater one, and is over
 // any `max` there is.
-#[tactic(auto, using(crate::proofs::Encodes::encode_refused, crate::proofs::Encodes::encode_big, crate::proofs::Encodes::encode_small))]
+#[tactic(auto, using(crate::proofs::Encodes::encode_refused, crate::proofs::Encodes::encode_fine))]
 fn encode_within(message: &Message, max: u64, lent: &Lent<'_>, out: &mut [u8]) -> Written
     requires { max ≤ 4294967296 }
     ensures { record { answer = result; out = out.new } ≡ encode_message max lent.now.limit message.now lent.now.text.now lent.now.rows.now lent.now.nodes.now out.old }
 {
-    check_message(message, lent)?;
-    let size = size_message(message, lent);
+    let size = check_message(message, lent)?;
     if max < size as u64 {
         return Err(Refusal::too_large(size as u64, max));
     }

@@ -5,7 +5,6 @@ ghost use Rattle.protocol.specs.Rows.{width_of};
 ghost use Rattle.protocol_write.specs.Inner.Checking.{row_good, RowLaid, row_names, value_root};
 ghost use Rattle.protocol_write.specs.Inner.Writing.{Writes, put_row};
 
-use crate::checks::{check_desc, check_value};
 use crate::columns;
 use crate::lent::Lent;
 use crate::write::Writer;
@@ -26,7 +25,8 @@ pub(crate) trait SentRow: Row {
     }
 
     fn write(row: &[u64], writer: &mut Writer<'_>)
-        requires { length row.now ≡ width_of Self.KIND }
+        requires whole { length row.now ≡ width_of Self.KIND }
+        requires laid { RowLaid Self.KIND writer.old.lent.now.limit row.now writer.old.lent.now.nodes.now 0 }
         ensures { Writes (put_row Self.KIND writer.old.lent.now.limit writer.old.lent.now.text.now row.now writer.old.lent.now.nodes.now 0) writer.old writer.new };
 }
 
@@ -38,12 +38,11 @@ pub(crate) trait BoundedRow: SentRow {
         ensures { result ≡ row_good Self.KIND row.now 0 };
 }
 
-// A row with texts.
+// A row with a text and no nodes.
 pub(crate) trait NamedRow: SentRow {
-    // Its texts.
+    // Its text.
     fn check(lent: &Lent<'_>, row: &[u64]) -> Result<(), Refusal>
-        requires whole { length row.now ≡ width_of Self.KIND }
-        requires laid { RowLaid Self.KIND lent.now.limit row.now lent.now.nodes.now 0 }
+        requires { length row.now ≡ width_of Self.KIND }
         ensures { result ≡ row_names Self.KIND lent.now.limit lent.now.text.now row.now lent.now.nodes.now 0 };
 }
 
@@ -57,7 +56,7 @@ pub(crate) fn span_at(row: &[u64], k: usize) -> Span
 
 // The root of a type's value, where the type has one: the node after its key.
 #[tactic(auto, unfolding(crate::specs::Inner::Checking::value_root))]
-fn value_root(nodes: &[u64], row: &[u64]) -> Option<usize>
+pub(crate) fn value_root(nodes: &[u64], row: &[u64]) -> Option<usize>
     requires { 5 < length row.now }
     ensures { result ≡ value_root nodes.now (get_or row.now 4 0) (get_or row.now 5 0) }
 {
@@ -107,15 +106,6 @@ impl BoundedRow for Predicate {
         (row[columns::TYPE_ID] <= MAX_U32)
             & (row[columns::TYPE_VIRTUAL] <= 1)
             & (row[columns::TYPE_VALUE] <= 1)
-    }
-}
-
-impl NamedRow for Predicate {
-    #[tactic(auto, unfolding(crate::specs::Inner::Checking::row_names, desc::specs::Emitting::then_names))]
-    fn check(lent: &Lent<'_>, row: &[u64]) -> Result<(), Refusal> {
-        check_name(lent.text, span_at(row, columns::TYPE_NAME))?;
-        check_desc(lent, row[columns::TYPE_KEY] as usize)?;
-        check_value(lent, value_root(lent.nodes, row))
     }
 }
 

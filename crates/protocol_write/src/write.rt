@@ -1,28 +1,30 @@
-// Writing a message into a buffer. Nothing of it is tested here but that its rows are there: others are not written.
-ghost use Rattle.std.specs.Prelude.{◌≡◌, ◌<◌, ◌≤◌, length};
+// Writing a message that was found to be one that can be written: nothing of it is tested here.
+ghost use Rattle.std.specs.Prelude.{◌≡◌, ◌<◌, ◌≤◌, length, Ok};
+ghost use Rattle.varint.specs.Inner.Again.{Accepted};
 ghost use Rattle.desc.specs.Emitting.{put_name, put_number};
+ghost use Rattle.desc.specs.Inner.Emission.{put_at};
 ghost use Rattle.desc.specs.Table.{table};
-ghost use Rattle.protocol_write.specs.Inner.Checking.{row_count};
-ghost use Rattle.protocol_write.specs.Inner.Writing.{Writes, put_byte, put_flag, put_fixed, put_two, put_text, put_at, put_labelled, put_value, put_rows, put_counted, put_tagged, put_startup, put_control, put_finished, put_reply, put_page, put_digest, put_message};
+ghost use Rattle.protocol_write.specs.Inner.Checking.{row_count, nodes_fine, RowsFine, ValueLaid, fine};
+ghost use Rattle.protocol_write.specs.Inner.Writing.{Writes, put_byte, put_flag, put_fixed, put_two, put_text, put_labelled, put_value, put_rows, put_counted, put_tagged, put_startup, put_control, put_finished, put_reply, put_page, put_digest, put_head, put_body, put_message};
 
-use crate::checks::first_rows;
+use crate::checks::cut_rows;
 use crate::columns;
 use crate::lent::Lent;
 use crate::rows::{SentRow, span_at};
-use desc::write::{put_desc, put_name, put_number};
+use desc::inner::put_desc;
+use desc::write::{put_name, put_number};
 use protocol::message::{
     Claim, ControlOp, ControlReply, Id, Message, Mode, Pair, Predicate, Span, Step,
 };
 use varint::store::{copy_bytes, store};
 
-// What is written, a buffer, and how far it is written. desc has one too, for its walk over a descriptor, and messages need steps of their own, for
-// which a trait over that one would be as long. What lies past the buffer's end is not stored, and the place still moves on, so with no buffer this
+// What is written, a buffer, and how far it is written. (desc has a `Writer` too, for a descriptor's walk. Messages have steps of their own.) What lies past the buffer's end is not stored, and the place still moves on, so with an empty buffer this
 // tells the size.
 #[derive(Drop)]
 pub(crate) struct Writer<'a> {
     pub(crate) lent: &'a Lent<'a>,
-    out: &'a mut [u8],
-    at: usize,
+    pub(crate) out: &'a mut [u8],
+    pub(crate) at: usize,
 }
 
 impl Writer<'_> {
@@ -83,19 +85,18 @@ impl Writer<'_> {
     }
 
     // The descriptor whose root is node `n`.
-    #[tactic(auto, unfolding(crate::specs::Inner::Writing::put_at, desc::specs::Emitting::put_desc))]
     pub(crate) fn desc(&mut self, n: usize)
+        requires { Accepted (table self.old.lent.now.limit self.old.lent.now.nodes.now n 0) }
         ensures { Writes (put_at self.old.lent.now.text.now (table self.old.lent.now.limit self.old.lent.now.nodes.now n 0)) self.old self.new }
     {
         let lent = self.lent;
-        if let Some(emitted) = put_desc(lent.text, lent.nodes, n, lent.limit, self.out, self.at) {
-            self.at = emitted.place;
-        }
+        self.at = put_desc(lent.text, lent.nodes, n, lent.limit, self.out, self.at);
     }
 
     // Whether a type has a value, and the value, whose root is node `root`.
     #[tactic(auto, unfolding(crate::specs::Inner::Writing::put_value))]
     pub(crate) fn value(&mut self, root: Option<usize>)
+        requires { ValueLaid self.old.lent.now.limit self.old.lent.now.nodes.now root }
         ensures { Writes (put_value self.old.lent.now.limit self.old.lent.now.text.now self.old.lent.now.nodes.now root) self.old self.new }
     {
         self.flag(root.is_some());
@@ -114,8 +115,9 @@ impl Writer<'_> {
         self.varint(row[columns::LABEL_NUMBER]);
     }
 
-    #[tactic(auto, using(crate::proofs::RowLoops::put_turn, crate::proofs::RowLoops::put_end))]
+    #[tactic(auto, using(crate::proofs::RowLoops::put_turn, crate::proofs::RowLoops::put_end, crate::proofs::RowsLaid::rows_laid, crate::proofs::RowsLaid::first_laid, crate::proofs::RowsLaid::others_laid))]
     fn rows<R: SentRow>(&mut self, rows: &[u64])
+        requires { nodes_fine R.KIND self.old.lent.now.limit rows.now self.old.lent.now.nodes.now (row_count R.KIND rows.now) ≡ Ok tt }
         ensures { Writes (put_rows R.KIND self.old.lent.now.limit self.old.lent.now.text.now rows.now self.old.lent.now.nodes.now (row_count R.KIND rows.now) 0) self.old self.new }
     {
         for row in rows.chunks_exact(R::width()) {
@@ -124,14 +126,13 @@ impl Writer<'_> {
     }
 
     // A count and so many rows.
-    #[tactic(auto, unfolding(crate::specs::Inner::Writing::put_counted, crate::specs::Inner::Checking::there), using(crate::proofs::RowLoops::cut_put))]
-    fn counted<R: SentRow>(&mut self, count: u64)
+    #[tactic(auto, unfolding(crate::specs::Inner::Writing::put_counted), using(crate::proofs::RowLoops::cut_put, crate::proofs::RowsLaid::cut_nodes))]
+    pub(crate) fn counted<R: SentRow>(&mut self, count: u64)
+        requires { RowsFine R.KIND self.old.lent.now.limit self.old.lent.now.rows.now self.old.lent.now.nodes.now count }
         ensures { Writes (put_counted R.KIND self.old.lent.now.limit self.old.lent.now.text.now self.old.lent.now.rows.now self.old.lent.now.nodes.now count) self.old self.new }
     {
-        if let Ok(rows) = first_rows::<R>(self.lent.rows, count) {
-            self.varint(count);
-            self.rows::<R>(rows);
-        }
+        self.varint(count);
+        self.rows::<R>(cut_rows::<R>(self.lent.rows, count));
     }
 
     // A byte and a text.
@@ -173,6 +174,7 @@ impl Writer<'_> {
         self.flag(complete);
     }
 
+    #[inline(always)]
     #[tactic(auto, unfolding(crate::specs::Inner::Writing::put_reply))]
     fn reply(&mut self, reply: ControlReply)
         ensures { Writes (put_reply reply self.old.lent.now.text.now) self.old self.new }
@@ -213,56 +215,82 @@ impl Writer<'_> {
             }
         }
     }
+
+    // A message up to its rows. It is inlined, as `reply` and `body` are: else a short message takes a fifth more time.
+    #[inline(always)]
+    #[tactic(auto, unfolding(crate::specs::Inner::Writing::put_head))]
+    pub(crate) fn head(&mut self, message: &Message)
+        ensures { Writes (put_head message.now self.old.lent.now.text.now) self.old self.new }
+    {
+        match *message {
+            Message::Startup {
+                version,
+                database,
+                mode,
+                schema_fingerprint,
+                ..
+            } => self.startup(version, database, mode, schema_fingerprint),
+            Message::Ready {
+                version,
+                schema_fingerprint,
+                predicates,
+            } => {
+                self.two(u64::from(version), schema_fingerprint);
+                self.varint(predicates)
+            }
+            Message::Error { code, text: span } => self.tagged(u8::from(code), span),
+            Message::Complete { first, second } => self.two(first, second),
+            Message::Control {
+                op,
+                database,
+                allow_zero_facts,
+                schema,
+            } => self.control(op, database, allow_zero_facts, schema),
+            Message::Reply(reply) => self.reply(reply),
+            Message::Page {
+                limit: most,
+                cursor,
+                query,
+            } => self.page(most, cursor, query),
+            Message::Fetch { digest, .. } => self.digest(digest),
+            Message::ListingDigest { predicate, digest } => self.two(u64::from(predicate), digest),
+            Message::Opaque { payload } => self.raw(payload),
+            Message::Ids { .. } | Message::Types { .. } | Message::Profile { .. } => {}
+        }
+    }
+
+    // The rows of a message that has some.
+    #[inline(always)]
+    #[tactic(auto, unfolding(crate::specs::Inner::Writing::put_body))]
+    fn body(&mut self, message: &Message)
+        requires { fine self.old.lent.now.limit message.now self.old.lent.now.text.now self.old.lent.now.rows.now self.old.lent.now.nodes.now ≡ Ok tt }
+        ensures { Writes (put_body self.old.lent.now.limit message.now self.old.lent.now.text.now self.old.lent.now.rows.now self.old.lent.now.nodes.now) self.old self.new }
+    {
+        match *message {
+            Message::Startup { claims, .. } => self.counted::<Claim>(claims),
+            Message::Ids { count } => self.counted::<Id>(count),
+            Message::Types { count } => self.counted::<Predicate>(count),
+            Message::Profile { steps } => self.counted::<Step>(steps),
+            Message::Fetch { count, .. } => self.counted::<Pair>(count),
+            Message::Ready { .. }
+            | Message::Error { .. }
+            | Message::Complete { .. }
+            | Message::Control { .. }
+            | Message::Reply(_)
+            | Message::Page { .. }
+            | Message::ListingDigest { .. }
+            | Message::Opaque { .. } => {}
+        }
+    }
 }
 
-// The whole message from the start of `out` on; returns its size.
+// The whole message from the start of `out` on.
 #[tactic(auto, unfolding(crate::specs::Inner::Writing::put_message))]
-pub(crate) fn write_message(message: &Message, lent: &Lent<'_>, out: &mut [u8]) -> usize
-    ensures { record { out = out.new; place = result } ≡ put_message lent.now.limit message.now lent.now.text.now lent.now.rows.now lent.now.nodes.now (record { out = out.old; place = 0 }) }
+pub(crate) fn write_message(message: &Message, lent: &Lent<'_>, out: &mut [u8])
+    requires { fine lent.now.limit message.now lent.now.text.now lent.now.rows.now lent.now.nodes.now ≡ Ok tt }
+    ensures { out.new ≡ (put_message lent.now.limit message.now lent.now.text.now lent.now.rows.now lent.now.nodes.now (record { out = out.old; place = 0 })).out }
 {
     let mut writer = Writer { lent, out, at: 0 };
-    match *message {
-        Message::Startup {
-            version,
-            database,
-            mode,
-            schema_fingerprint,
-            claims,
-        } => {
-            writer.startup(version, database, mode, schema_fingerprint);
-            writer.counted::<Claim>(claims)
-        }
-        Message::Ready {
-            version,
-            schema_fingerprint,
-            predicates,
-        } => {
-            writer.two(u64::from(version), schema_fingerprint);
-            writer.varint(predicates)
-        }
-        Message::Error { code, text: span } => writer.tagged(u8::from(code), span),
-        Message::Complete { first, second } => writer.two(first, second),
-        Message::Ids { count } => writer.counted::<Id>(count),
-        Message::Types { count } => writer.counted::<Predicate>(count),
-        Message::Control {
-            op,
-            database,
-            allow_zero_facts,
-            schema,
-        } => writer.control(op, database, allow_zero_facts, schema),
-        Message::Reply(reply) => writer.reply(reply),
-        Message::Profile { steps } => writer.counted::<Step>(steps),
-        Message::Page {
-            limit: most,
-            cursor,
-            query,
-        } => writer.page(most, cursor, query),
-        Message::Fetch { digest, count } => {
-            writer.digest(digest);
-            writer.counted::<Pair>(count)
-        }
-        Message::ListingDigest { predicate, digest } => writer.two(u64::from(predicate), digest),
-        Message::Opaque { payload } => writer.raw(payload),
-    }
-    writer.at
+    writer.head(message);
+    writer.body(message);
 }

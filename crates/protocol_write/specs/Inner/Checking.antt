@@ -6,10 +6,14 @@ use Rattle.varint.specs.Stores.{part}
 use Rattle.varint.specs.Utf8.{utf8, scan, lead}
 use Rattle.varint.specs.declared.error.Fault.TheVariants.{Texts, RowCount, Number}
 use Rattle.varint.specs.declared.error.Refusal.TheVariants.{BadMessage, BlockTooLarge}
-use Rattle.desc.specs.Emitting.{verdict, then_names}
+use Rattle.desc.specs.Emitting.{verdict, then_names, span_size, emitted_to}
+use Rattle.desc.specs.declared.write.Emitted.{Emitted}
+use Rattle.varint.specs.Got.{Got}
+use Rattle.varint.specs.Inner.Again.{Accepted}
+use Rattle.varint.specs.Leb128.{put_by, put_u64}
 use Rattle.desc.specs.Encoding.{held_in}
 use Rattle.desc.specs.Layout.{end_at}
-use Rattle.desc.specs.Table.{cell, table}
+use Rattle.desc.specs.Table.{cell, root_name, discriminant_fits, predicate_fits, is_branch, leaf_fits, node_fits, table}
 use Rattle.desc.specs.Trees.{Tree}
 use Rattle.protocol.specs.Fetch.{max_fetch}
 use Rattle.protocol.specs.Fields.{yes}
@@ -52,11 +56,6 @@ numbers_fine Pair rs count = true
 unfoldable pub numbers_told : RowKind → List ℕ → ℕ → Result (Unit {0}) Refusal
 numbers_told kind rs count = pick (numbers_fine kind rs count) (Ok tt) (Err (BadMessage Number))
 
--- the node after those of a type, if they are laid out as nodes are
-unfoldable pub laid_as : Held ℕ → Option ℕ
-laid_as (held n) = Some n
-laid_as (lacks e) = None
-
 -- are the nodes of the rows laid out? Only types have nodes.
 unfoldable pub nodes_fine : RowKind → ℕ → List ℕ → List ℕ → ℕ → Result (Unit {0}) Refusal
 nodes_fine Claim limit rs nd count = Ok tt
@@ -69,22 +68,17 @@ nodes_fine Pair limit rs nd count = Ok tt
 unfoldable pub value_root : List ℕ → ℕ → ℕ → Option ℕ
 value_root nd has key = pick (yes has) (Some (cell nd key end_at)) None
 
--- the nodes from node n on are laid out as those of a tree
-pub record LaidAt (limit : ℕ) (nd : List ℕ) (n : ℕ) : Type 0 where
-  pub tree : Tree (ℕ × ℕ)
-  pub next : ℕ
-  pub is : table limit nd n 0 ≡ Ok (tree, next)
-
--- so are those of a type's value, where it has one
+-- the nodes of a type's value, where it has one, are laid out as those of a tree
 abbrev pub ValueLaid : ℕ → List ℕ → Option ℕ → Type 0
 ValueLaid limit nd None = Unit
-ValueLaid limit nd (Some n) = LaidAt limit nd n
+ValueLaid limit nd (Some n) = Accepted (table limit nd n 0)
 
 -- so are the nodes of the row at number r; only types have nodes
 abbrev pub RowLaid : RowKind → ℕ → List ℕ → List ℕ → ℕ → Type 0
 RowLaid Claim limit rs nd r = Unit
 RowLaid Id limit rs nd r = Unit
-RowLaid Predicate limit rs nd r = LaidAt limit nd (get_or rs (r + 5) 0) × ValueLaid limit nd (value_root nd (get_or rs (r + 4) 0) (get_or rs (r + 5) 0))
+RowLaid Predicate limit rs nd r =
+    Accepted (table limit nd (get_or rs (r + 5) 0) 0) × ValueLaid limit nd (value_root nd (get_or rs (r + 4) 0) (get_or rs (r + 5) 0))
 RowLaid Step limit rs nd r = Unit
 RowLaid Pair limit rs nd r = Unit
 
@@ -123,6 +117,10 @@ rows_fine kind limit tx rs nd count =
     then_names (there kind rs count)
     (then_names (numbers_told kind rs count) (then_names (nodes_fine kind limit rs nd count) (rows_names kind limit tx rs nd count 0)))
 
+-- rows that are there, with nodes that are laid out
+abbrev pub RowsFine : RowKind → ℕ → List ℕ → List ℕ → ℕ → Type 0
+RowsFine kind limit rs nd count = (there kind rs count ≡ Ok tt) × (nodes_fine kind limit rs nd count ≡ Ok tt)
+
 -- only a reply to a create has a text
 unfoldable pub reply_fine : ControlReply → List ℕ → Result (Unit {0}) Refusal
 reply_fine (R.Created span) tx = verdict (name_held tx span.start span.len)
@@ -157,6 +155,47 @@ fine limit (Msg.Page most cursor query) tx rs nd =
 fine limit (Msg.Fetch digest count) tx rs nd = fetch_fine rs count
 fine limit (Msg.ListingDigest predicate digest) tx rs nd = Ok tt
 fine limit (Msg.Opaque payload) tx rs nd = verdict (raw_held tx payload.start payload.len)
+
+-- The size of what may be written, or why it may not be
+
+unfoldable pub size_if : Result (Unit {0}) Refusal → ℕ → Result ℕ Refusal
+size_if (Ok _) size = Ok size
+size_if (Err e) size = Err e
+
+-- how many bytes a descriptor has by the lengths in the table
+unfoldable pub tree_size : Got (Tree (ℕ × ℕ)) → ℕ
+tree_size (Ok (tree, next)) = span_size tree
+tree_size (Err e) = 0
+
+-- so a type's value, where it has one
+unfoldable pub value_size : ℕ → List ℕ → Option ℕ → ℕ
+value_size limit nd None = 0
+value_size limit nd (Some n) = tree_size (table limit nd n 0)
+
+-- a type up to its descriptors and between them: its id, its name and two flags
+unfoldable pub fields_size : List ℕ → ℕ → ℕ
+fields_size rs r = length (put_u64 (get_or rs r 0)) + (length (put_u64 (get_or rs (r + 2) 0)) + (get_or rs (r + 2) 0 + 2))
+
+-- and with its key and its value
+unfoldable pub type_size : ℕ → List ℕ → List ℕ → ℕ → ℕ
+type_size limit rs nd r =
+    fields_size rs r
+    + (tree_size (table limit nd (get_or rs (r + 5) 0) 0) + value_size limit nd (value_root nd (get_or rs (r + 4) 0) (get_or rs (r + 5) 0)))
+
+-- a type of one letter from an int to a string
+example_size : type_size 64 (3 ∷ 0 ∷ 1 ∷ 0 ∷ 1 ∷ 0 ∷ []) (0 ∷ 0 ∷ 0 ∷ 0 ∷ 0 ∷ 0 ∷ 1 ∷ 1 ∷ 0 ∷ 0 ∷ 0 ∷ 0 ∷ 0 ∷ 2 ∷ []) 0 ≡ 7
+unfolding type_size fields_size tree_size value_size value_root table node_fits root_name discriminant_fits predicate_fits is_branch leaf_fits span_size put_u64 put_by
+example_size = refl
+
+-- n types from number r on
+unfoldable pub types_size : ℕ → List ℕ → List ℕ → ℕ → ℕ → ℕ
+types_size limit rs nd zero r = 0
+types_size limit rs nd (suc n) r = type_size limit rs nd r + types_size limit rs nd n (r + width_of Predicate)
+
+-- the node after those of a type, and the type's size, if they are laid out as nodes are
+unfoldable pub sized_as : Held ℕ → ℕ → Option Emitted
+sized_as (held n) size = Some (emitted_to n size)
+sized_as (lacks e) size = None
 
 -- a claim whose name is past the text's end, after one whose name is there
 example_names : rows_names Claim 64 (0x61 ∷ []) (0 ∷ 1 ∷ 7 ∷ 1 ∷ 1 ∷ 8 ∷ []) [] 2 0 ≡ Err (BadMessage Texts)

@@ -1,13 +1,10 @@
 -- Writing a message from a place of a buffer on, field by field, as the code has it.
-use Rattle.std.specs.Prelude.{Bool, true, false, ◌≡◌, refl, List, [], ◌∷◌, ℕ, zero, suc, ◌+◌, ◌*◌, ◌/◌, ◌%◌, ltb, length, get_or, Ok, Err, Some, None, Option}
-use Rattle.varint.specs.Choice.{pick}
+use Rattle.std.specs.Prelude.{Bool, true, false, ◌≡◌, refl, List, [], ◌∷◌, ℕ, zero, suc, ◌+◌, ◌/◌, ◌%◌, get_or, Some, None, Option}
 use Rattle.varint.specs.Fixed.{put_le}
-use Rattle.varint.specs.Got.{Got}
 use Rattle.varint.specs.Leb128.{put_by, put_u64}
-use Rattle.desc.specs.Emitting.{Pen, put_bytes, put_number, put_name, put_tree}
-use Rattle.desc.specs.Layout.{NameSpan as Place}
+use Rattle.desc.specs.Emitting.{Pen, put_bytes, put_number, put_name}
+use Rattle.desc.specs.Inner.Emission.{put_at}
 use Rattle.desc.specs.Table.{table}
-use Rattle.desc.specs.Trees.{Tree}
 use Rattle.protocol.specs.Codes.{mode_byte, error_byte, op_byte}
 use Rattle.protocol.specs.Fields.{bit, yes}
 use Rattle.protocol.specs.Rows.{width_of}
@@ -52,11 +49,6 @@ put_two v w s = put_number w (put_number v s)
 unfoldable pub put_text : List ℕ → ℕ → ℕ → Pen → Pen
 put_text tx start len s = put_name tx (start, len) (put_number len s)
 
--- a descriptor; nothing where the nodes are not laid out as one
-unfoldable pub put_at : List ℕ → Got (Tree Place) → Pen → Pen
-put_at tx (Ok (tr, next)) s = put_tree tx tr s
-put_at tx (Err e) s = s
-
 -- Rows
 
 -- a fact's id in its two halves
@@ -98,10 +90,9 @@ unfoldable pub put_rows : RowKind → ℕ → List ℕ → List ℕ → List ℕ
 put_rows kind limit tx rs nd zero r s = s
 put_rows kind limit tx rs nd (suc n) r s = put_rows kind limit tx rs nd n (r + width_of kind) (put_row kind limit tx rs nd r s)
 
--- a count and so many rows; nothing of rows that are not there
+-- a count and so many rows
 unfoldable pub put_counted : RowKind → ℕ → List ℕ → List ℕ → List ℕ → ℕ → Pen → Pen
-put_counted kind limit tx rs nd count s =
-    pick (ltb (length rs) (count * width_of kind)) s (put_rows kind limit tx rs nd count 0 (put_number count s))
+put_counted kind limit tx rs nd count s = put_rows kind limit tx rs nd count 0 (put_number count s)
 
 -- Messages
 
@@ -140,24 +131,43 @@ unfoldable pub put_digest : Option ℕ → Pen → Pen
 put_digest None s = put_byte 0 s
 put_digest (Some d) s = put_number d (put_byte 1 s)
 
+-- a message up to its rows
+unfoldable pub put_head : Message → List ℕ → Pen → Pen
+put_head (Msg.Startup version database mode fingerprint count) tx s = put_startup version database mode fingerprint tx s
+put_head (Msg.Ready version fingerprint predicates) tx s = put_number predicates (put_two version fingerprint s)
+put_head (Msg.Error code text) tx s = put_tagged (error_byte code) text tx s
+put_head (Msg.Complete first second) tx s = put_two first second s
+put_head (Msg.Ids count) tx s = s
+put_head (Msg.Types count) tx s = s
+put_head (Msg.Control op database allow schema) tx s = put_control op database allow schema tx s
+put_head (Msg.Reply reply) tx s = put_reply reply tx s
+put_head (Msg.Profile count) tx s = s
+put_head (Msg.Page most cursor query) tx s = put_page most cursor query tx s
+put_head (Msg.Fetch digest count) tx s = put_digest digest s
+put_head (Msg.ListingDigest predicate digest) tx s = put_two predicate digest s
+put_head (Msg.Opaque payload) tx s = put_name tx (payload.start, payload.len) s
+
+-- the rows of a message that has some
+unfoldable pub put_body : ℕ → Message → List ℕ → List ℕ → List ℕ → Pen → Pen
+put_body limit (Msg.Startup version database mode fingerprint count) tx rs nd s = put_counted Claim limit tx rs nd count s
+put_body limit (Msg.Ready version fingerprint predicates) tx rs nd s = s
+put_body limit (Msg.Error code text) tx rs nd s = s
+put_body limit (Msg.Complete first second) tx rs nd s = s
+put_body limit (Msg.Ids count) tx rs nd s = put_counted Id limit tx rs nd count s
+put_body limit (Msg.Types count) tx rs nd s = put_counted Predicate limit tx rs nd count s
+put_body limit (Msg.Control op database allow schema) tx rs nd s = s
+put_body limit (Msg.Reply reply) tx rs nd s = s
+put_body limit (Msg.Profile count) tx rs nd s = put_counted Step limit tx rs nd count s
+put_body limit (Msg.Page most cursor query) tx rs nd s = s
+put_body limit (Msg.Fetch digest count) tx rs nd s = put_counted Pair limit tx rs nd count s
+put_body limit (Msg.ListingDigest predicate digest) tx rs nd s = s
+put_body limit (Msg.Opaque payload) tx rs nd s = s
+
 -- the whole message
 unfoldable pub put_message : ℕ → Message → List ℕ → List ℕ → List ℕ → Pen → Pen
-put_message limit (Msg.Startup version database mode fingerprint count) tx rs nd s =
-    put_counted Claim limit tx rs nd count (put_startup version database mode fingerprint tx s)
-put_message limit (Msg.Ready version fingerprint predicates) tx rs nd s = put_number predicates (put_two version fingerprint s)
-put_message limit (Msg.Error code text) tx rs nd s = put_tagged (error_byte code) text tx s
-put_message limit (Msg.Complete first second) tx rs nd s = put_two first second s
-put_message limit (Msg.Ids count) tx rs nd s = put_counted Id limit tx rs nd count s
-put_message limit (Msg.Types count) tx rs nd s = put_counted Predicate limit tx rs nd count s
-put_message limit (Msg.Control op database allow schema) tx rs nd s = put_control op database allow schema tx s
-put_message limit (Msg.Reply reply) tx rs nd s = put_reply reply tx s
-put_message limit (Msg.Profile count) tx rs nd s = put_counted Step limit tx rs nd count s
-put_message limit (Msg.Page most cursor query) tx rs nd s = put_page most cursor query tx s
-put_message limit (Msg.Fetch digest count) tx rs nd s = put_counted Pair limit tx rs nd count (put_digest digest s)
-put_message limit (Msg.ListingDigest predicate digest) tx rs nd s = put_two predicate digest s
-put_message limit (Msg.Opaque payload) tx rs nd s = put_name tx (payload.start, payload.len) s
+put_message limit message tx rs nd s = put_body limit message tx rs nd (put_head message tx s)
 
--- the size that a writer tells with a buffer of one byte
+-- the size that a writer tells with an empty buffer
 unfoldable pub size_of : ℕ → Message → List ℕ → List ℕ → List ℕ → ℕ
 size_of limit message tx rs nd = (put_message limit message tx rs nd (record { out = []; place = 0 })).place
 
