@@ -1,11 +1,10 @@
 -- What decoding answers and leaves, from what its two readings tell.
 use mathlib.Core.Bool.{true, false}
-use mathlib.Core.Path.{◌≡◌, refl, ◌∙◌}
+use mathlib.Core.Path.{◌≡◌, ap, refl, ◌∙◌}
 use mathlib.Core.List.{List, []}
 use Prim.Native.Nat.{ℕ, ◌*◌, ◌≤◌, ◌<◌}
 use native.Mathlib.Omega.{arith}
 use lib.ListN.{length}
-use lib.Seq.{sets}
 use borrow.Author.Tests.{lt-ltb, le-ltb}
 use Rattle.std.specs.Prelude.{Ok, Err, Result}
 use Rattle.varint.specs.Got.{Got}
@@ -16,8 +15,8 @@ use Rattle.varint.specs.declared.error.Refusal.{Refusal}
 use Rattle.varint.specs.declared.error.Refusal.TheVariants.{BlockTooLarge, TooSmall}
 use Rattle.varint.proofs.LentLaws.{Takes, fitted_text, fitted_nodes, fitted_all}
 use Rattle.desc.specs.Decoding.{taken_by, settled_desc, decode_desc}
-use Rattle.desc.specs.Inner.Walking.{walked_to, stored_as, reading, Agrees}
-use Rattle.desc.specs.Layout.{width, texts, placed, nodes_of}
+use Rattle.desc.specs.Inner.Walking.{walked_to, stored_as, Read, reading}
+use Rattle.desc.specs.Layout.{width}
 use Rattle.desc.specs.Reading.{desc}
 use Rattle.desc.specs.Trees.{Tree}
 use Rattle.desc.specs.declared.Walked.{Walked}
@@ -36,18 +35,18 @@ module _ (max limit : ℕ) (s tx rs nd : List ℕ) where
   unfolding decode_desc
   decode_large h = rw (lt-ltb max (length s) h) refl
 
-  module _ (small : length s ≤ max) (r : Result Walked Refusal) (tx₀ nd₀ : List ℕ) (first : Agrees (reading true D [] 0 [] 0) (length s) r tx₀ nd₀) where
+  module _ (small : length s ≤ max) {r : Result Walked Refusal} {tx₀ nd₀ : List ℕ} (first : record { answer = r; text = tx₀; nodes = nd₀ } ≡ reading true D [] 0 [] 0) where
     settles : {g : Got (Tree (List ℕ))} → D ≡ g → settled_desc g tx rs nd ≡ decode_desc max limit s tx rs nd
     unfolding decode_desc
     settles i = rw (le-ltb max (length s) small, i) refl
 
     pub decode_bad : {e : Refusal} → r ≡ Err e → Decoded (kept e tx rs nd)
     unfolding settled
-    decode_bad h = settles (desc_refused true D [] 0 [] 0 _ _ _ _ first h)
+    decode_bad h = settles (desc_refused true D [] 0 [] 0 first h)
 
     module _ {q t m : ℕ} (was : r ≡ Ok (walked_to q t m)) where
-      had : Had true D [] 0 [] 0 (length s) q t m tx₀ nd₀
-      had = desc_had true D [] 0 [] 0 _ _ _ _ first was
+      had : Had true D [] 0 [] 0 q t m tx₀ nd₀
+      had = desc_had true D [] 0 [] 0 first was
 
       takes : Takes (taken_by had.tree) t 0 (m * width)
       takes =
@@ -65,14 +64,10 @@ module _ (max limit : ℕ) (s tx rs nd : List ℕ) where
       decode_nodes h k = fitted_nodes q (taken_by had.tree) takes tx rs nd h (omega arith) k ∙ settles had.is
 
       -- the second stored it
-      pub decode_done : t ≤ length tx → m * width ≤ length nd → (x : Result Walked Refusal) (tx₁ nd₁ : List ℕ) {tx₂ rs₂ nd₂ : List ℕ}
-          → Agrees (reading false D tx 0 nd 0) (length s) x tx₁ nd₁ → tx₂ ≡ clear_from tx₁ t → rs₂ ≡ clear_from rs 0 → nd₂ ≡ clear_from nd₁ (m * width)
+      pub decode_done : t ≤ length tx → m * width ≤ length nd → {x : Result Walked Refusal} {tx₁ nd₁ tx₂ rs₂ nd₂ : List ℕ}
+          → record { answer = x; text = tx₁; nodes = nd₁ } ≡ reading false D tx 0 nd 0 → tx₂ ≡ clear_from tx₁ t → rs₂ ≡ clear_from rs 0 → nd₂ ≡ clear_from nd₁ (m * width)
           → Decoded (record { answer = Ok q; text = tx₂; rows = rs₂; nodes = nd₂ })
-      unfolding settled Agrees reading stored_as
-      decode_done h k x tx₁ nd₁ second e f g =
-          let l = stored had.tree had.is x tx₁ nd₁ second in
-          fitted_all q (taken_by had.tree) takes tx rs nd h (omega arith) k l.0 refl l.1 e f g ∙ settles had.is
-        where
-          stored : (tree : Tree (List ℕ)) {o : ℕ} → D ≡ Ok (tree, o) → (x : Result Walked Refusal) (tx₁ nd₁ : List ℕ) → Agrees (reading false D tx 0 nd 0) (length s) x tx₁ nd₁
-              → (tx₁ ≡ sets tx 0 (texts tree)) × (nd₁ ≡ sets nd 0 (nodes_of (placed tree 0) 0 (0, 0) 0))
-          stored tree i x tx₁ nd₁ a = let b = rw i at a in (b.1, b.2)
+      unfolding settled reading stored_as
+      decode_done h k second e f g =
+          let l = rw had.is at second in
+          fitted_all q (taken_by had.tree) takes tx rs nd h (omega arith) k (ap (λ (y : Read). y.text) l) refl (ap (λ (y : Read). y.nodes) l) e f g ∙ settles had.is

@@ -1,10 +1,10 @@
 // What the crates above call: each function relies on what its caller has proved.
-ghost use Rattle.std.specs.Prelude.{◌≡◌, ◌+◌, ◌≤◌, length};
+ghost use Rattle.std.specs.Prelude.{◌≡◌, ◌+◌, ◌≤◌};
 ghost use Rattle.varint.specs.Inner.Again.{Accepted, Again};
 ghost use Rattle.desc.specs.Reading.{desc};
 ghost use Rattle.desc.specs.Table.{table};
 ghost use Rattle.desc.specs.Inner.Emission.{put_at};
-ghost use Rattle.desc.specs.Inner.Walking.{reading, Agrees};
+ghost use Rattle.desc.specs.Inner.Walking.{reading};
 
 use crate::write::{NO_PARENT, Table, Writer};
 use crate::{Memory, Source, Walked};
@@ -24,7 +24,7 @@ pub fn read_desc(
 ) -> Result<Walked, Refusal>
     requires before { t + n ≤ at }
     requires again { Again check (desc limit limit s.now at) }
-    ensures { Agrees (reading check (desc limit limit s.now at) text.old t nodes.old n) (length s.now) result text.new nodes.new }
+    ensures { record { answer = result; text = text.new; nodes = nodes.new } ≡ reading check (desc limit limit s.now at) text.old t nodes.old n }
 {
     let source = Source { s, limit, check };
     // Two memories, and not one that is chosen: a struct that holds `&mut` can't come out of an `if`.

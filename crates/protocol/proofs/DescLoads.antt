@@ -1,14 +1,11 @@
 -- A descriptor within a message, as its reader tells it.
-use mathlib.Core.Bool.{Bool, true, false}
-use mathlib.Core.Path.{◌≡◌, refl, sym, ◌∙◌, ap}
+use mathlib.Core.Path.{◌≡◌, sym}
 use mathlib.Core.List.{List}
 use Prim.Native.Nat.{ℕ}
 use native.Mathlib.Nat.{add-zero}
-use lib.ListN.{length}
 use Rattle.std.specs.Prelude.{Result, Ok, Err}
-use Rattle.varint.specs.Choice.{pick}
 use Rattle.varint.specs.declared.error.Refusal.{Refusal}
-use Rattle.desc.specs.Inner.Walking.{Stored, stored_as, walked_to, reading, Agrees}
+use Rattle.desc.specs.Inner.Walking.{stored_as, walked_to, reading}
 use Rattle.desc.specs.WellFormed.{descriptor}
 use Rattle.desc.specs.declared.Walked.{Walked}
 use Rattle.desc.proofs.Readings.{desc_had, desc_refused}
@@ -20,30 +17,24 @@ use Rattle.protocol.proofs.RowStores.{stored_none}
 abbrev pub with_tree : List ℕ → ℕ → List ℕ → ℕ → Mem → Mem
 with_tree tx t nd n m = record { check = m.check; limit = m.limit; text = tx; t = t; rows = m.rows; r = m.r; nodes = nd; n = n }
 
--- what is stored where the reading does not check
-picked : (check : Bool) (a b : Stored) → ((pick check a b).text ≡ pick check a.text b.text) × ((pick check a b).nodes ≡ pick check a.nodes b.nodes)
-picked true a b = (refl, refl)
-picked false a b = (refl, refl)
-
-module _ (s : List ℕ) (at : ℕ) (m : Mem) {x : Result Walked Refusal} (tx nd : List ℕ)
-    (a : Agrees (reading m.check ((descriptor m.limit).read s at) m.text m.t m.nodes m.n) (length s) x tx nd) where
+module _ (s : List ℕ) (at : ℕ) (m : Mem) {x : Result Walked Refusal} {tx nd : List ℕ}
+    (a : record { answer = x; text = tx; nodes = nd } ≡ reading m.check ((descriptor m.limit).read s at) m.text m.t m.nodes m.n) where
   pub desc_failed : {e : Refusal} → x ≡ Err e → failed e ≡ load past tree ((descriptor m.limit).read s at) m
   unfolding load
-  desc_failed h = rw (desc_refused m.check ((descriptor m.limit).read s at) m.text m.t m.nodes m.n (length s) x tx nd a h)
+  desc_failed h = rw (desc_refused m.check ((descriptor m.limit).read s at) m.text m.t m.nodes m.n a h)
 
   pub desc_loaded : {q t n : ℕ} → x ≡ Ok (walked_to q t n) → told (Ok q) (with_tree tx t nd n m) ≡ load past tree ((descriptor m.limit).read s at) m
   unfolding told load stored_as
   desc_loaded {q} h =
-      let w = desc_had m.check ((descriptor m.limit).read s at) m.text m.t m.nodes m.n (length s) x tx nd a h in
-      let p = picked m.check (record { text = m.text; nodes = m.nodes }) (stored_as w.tree m.text m.t m.nodes m.n (0, 0) 0) in
+      let w = desc_had m.check ((descriptor m.limit).read s at) m.text m.t m.nodes m.n a h in
       rw w.is
       (λ i. loaded q (record {
         check = m.check;
         limit = m.limit;
-        text = (ap (λ (y : Stored). y.text) w.left ∙ p.0) i;
+        text = w.text i;
         t = w.text_end i;
         rows = sym (stored_none m.check m.rows m.r) i;
         r = sym (add-zero m.r) i;
-        nodes = (ap (λ (y : Stored). y.nodes) w.left ∙ p.1) i;
+        nodes = w.nodes i;
         n = w.node_end i;
       }))

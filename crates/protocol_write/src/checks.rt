@@ -12,7 +12,7 @@ ghost use Rattle.protocol.specs.Rows.{width_of};
 ghost use Rattle.protocol.specs.Types.{type_laid};
 ghost use Rattle.protocol.specs.declared.message.RowKind.TheVariants as K;
 ghost use Rattle.protocol_write.specs.Inner.Checking.{row_count, Cut, numbers_told, nodes_fine, ValueLaid, RowLaid, value_names, row_names, rows_names, there, rows_fine, startup_fine, reply_fine, fetch_fine, fine, size_if, fields_size, type_size, types_size, sized_as};
-ghost use Rattle.protocol_write.specs.Inner.Writing.{pen, put_rows, put_counted, size_of};
+ghost use Rattle.protocol_write.specs.Inner.Writing.{pen, put_rows, size_of, Sizes};
 
 use crate::columns;
 use crate::lent::Lent;
@@ -203,7 +203,7 @@ fn size_named<R: NamedRow>(rows: &[u64], gauge: &mut Writer<'_>) -> Result<usize
 // Checks the types of a message, and tells the place after them; the gauge has passed what stands before.
 #[tactic(auto, unfolding(crate::specs::Inner::Checking::rows_fine, crate::specs::Inner::Checking::size_if, crate::specs::Inner::Writing::put_counted, desc::specs::Emitting::then_names), using(crate::proofs::RowLoops::cut_numbers, crate::proofs::RowsLaid::cut_nodes, crate::proofs::RowLoops::cut_names))]
 fn check_types(count: u64, gauge: &mut Writer<'_>) -> Result<usize, Refusal>
-    ensures { result ≡ size_if (rows_fine K.Predicate gauge.old.lent.now.limit gauge.old.lent.now.text.now gauge.old.lent.now.rows.now gauge.old.lent.now.nodes.now count) (put_counted K.Predicate gauge.old.lent.now.limit gauge.old.lent.now.text.now gauge.old.lent.now.rows.now gauge.old.lent.now.nodes.now count (pen gauge.old)).place }
+    ensures { Sizes K.Predicate count (rows_fine K.Predicate gauge.old.lent.now.limit gauge.old.lent.now.text.now gauge.old.lent.now.rows.now gauge.old.lent.now.nodes.now count) gauge.old result }
 {
     let lent = gauge.lent;
     let rows = first_rows::<Predicate>(lent.rows, count)?;
@@ -217,7 +217,7 @@ fn check_types(count: u64, gauge: &mut Writer<'_>) -> Result<usize, Refusal>
 // So for steps.
 #[tactic(auto, unfolding(crate::specs::Inner::Checking::rows_fine, crate::specs::Inner::Checking::nodes_fine, crate::specs::Inner::Checking::size_if, crate::specs::Inner::Writing::put_counted, desc::specs::Emitting::then_names), using(crate::proofs::RowLoops::cut_numbers, crate::proofs::RowLoops::cut_names, crate::proofs::RowLoops::cut_put))]
 fn check_steps(count: u64, gauge: &mut Writer<'_>) -> Result<usize, Refusal>
-    ensures { result ≡ size_if (rows_fine K.Step gauge.old.lent.now.limit gauge.old.lent.now.text.now gauge.old.lent.now.rows.now gauge.old.lent.now.nodes.now count) (put_counted K.Step gauge.old.lent.now.limit gauge.old.lent.now.text.now gauge.old.lent.now.rows.now gauge.old.lent.now.nodes.now count (pen gauge.old)).place }
+    ensures { Sizes K.Step count (rows_fine K.Step gauge.old.lent.now.limit gauge.old.lent.now.text.now gauge.old.lent.now.rows.now gauge.old.lent.now.nodes.now count) gauge.old result }
 {
     let rows = first_rows::<Step>(gauge.lent.rows, count)?;
     check_numbers::<Step>(rows)?;
@@ -228,7 +228,7 @@ fn check_steps(count: u64, gauge: &mut Writer<'_>) -> Result<usize, Refusal>
 // The claims' count is tested before the database's name.
 #[tactic(auto, unfolding(crate::specs::Inner::Checking::startup_fine, crate::specs::Inner::Checking::nodes_fine, crate::specs::Inner::Checking::size_if, crate::specs::Inner::Writing::put_counted, desc::specs::Emitting::then_names), using(crate::proofs::RowLoops::cut_names, crate::proofs::RowLoops::cut_put))]
 fn check_startup(database: Span, count: u64, gauge: &mut Writer<'_>) -> Result<usize, Refusal>
-    ensures { result ≡ size_if (startup_fine database gauge.old.lent.now.limit gauge.old.lent.now.text.now gauge.old.lent.now.rows.now gauge.old.lent.now.nodes.now count) (put_counted K.Claim gauge.old.lent.now.limit gauge.old.lent.now.text.now gauge.old.lent.now.rows.now gauge.old.lent.now.nodes.now count (pen gauge.old)).place }
+    ensures { Sizes K.Claim count (startup_fine database gauge.old.lent.now.limit gauge.old.lent.now.text.now gauge.old.lent.now.rows.now gauge.old.lent.now.nodes.now count) gauge.old result }
 {
     let rows = first_rows::<Claim>(gauge.lent.rows, count)?;
     check_name(gauge.lent.text, database)?;
@@ -239,7 +239,7 @@ fn check_startup(database: Span, count: u64, gauge: &mut Writer<'_>) -> Result<u
 // Ids may be any: they only have to be there.
 #[tactic(auto, unfolding(crate::specs::Inner::Checking::nodes_fine, crate::specs::Inner::Checking::size_if))]
 fn check_ids(count: u64, gauge: &mut Writer<'_>) -> Result<usize, Refusal>
-    ensures { result ≡ size_if (there K.Id gauge.old.lent.now.rows.now count) (put_counted K.Id gauge.old.lent.now.limit gauge.old.lent.now.text.now gauge.old.lent.now.rows.now gauge.old.lent.now.nodes.now count (pen gauge.old)).place }
+    ensures { Sizes K.Id count (there K.Id gauge.old.lent.now.rows.now count) gauge.old result }
 {
     first_rows::<Id>(gauge.lent.rows, count)?;
     gauge.counted::<Id>(count);
@@ -259,7 +259,7 @@ fn check_reply(reply: ControlReply, text: &[u8]) -> Result<(), Refusal>
 // A fetch has at most 4,096 ids.
 #[tactic(auto, unfolding(crate::specs::Inner::Checking::fetch_fine, crate::specs::Inner::Checking::nodes_fine, crate::specs::Inner::Checking::size_if, desc::specs::Emitting::then_names))]
 fn check_fetch(count: u64, gauge: &mut Writer<'_>) -> Result<usize, Refusal>
-    ensures { result ≡ size_if (fetch_fine gauge.old.lent.now.rows.now count) (put_counted K.Pair gauge.old.lent.now.limit gauge.old.lent.now.text.now gauge.old.lent.now.rows.now gauge.old.lent.now.nodes.now count (pen gauge.old)).place }
+    ensures { Sizes K.Pair count (fetch_fine gauge.old.lent.now.rows.now count) gauge.old result }
 {
     first_rows::<Pair>(gauge.lent.rows, count)?;
     if Message::MAX_FETCH < count {

@@ -43,12 +43,6 @@ outcome_kids (Ok (ks, next)) tx t nd m =
     done next (t + length (kid_texts ks)) (m + kid_size ks)
     (record { text = sets tx t (kid_texts ks); nodes = sets nd (m * width) (kid_nodes (placed_kids ks t) m) })
 
--- A reading within other bytes, of a root: the one that checks stores nothing, and the places move on in both.
-unfoldable pub reading : Bool → Got (Tree (List ℕ)) → (tx : List ℕ) (t : ℕ) (nd : List ℕ) (n : ℕ) → Outcome
-reading check (Err e) tx t nd n = refused e
-reading check (Ok (tr, next)) tx t nd n =
-    done next (t + length (texts tr)) (n + size tr) (pick check (record { text = tx; nodes = nd }) (stored_as tr tx t nd n (0, 0) 0))
-
 -- What a function answered and left agrees with an outcome, and the places are in bounds: each byte of text and each node cost a byte. Of
 -- the buffers after a refusal nothing is said.
 unfoldable pub Agrees : Outcome → ℕ → Result Walked Refusal → List ℕ → List ℕ → Type 0
@@ -71,3 +65,19 @@ Labels s (Err e) before after x = x ≡ Err e
 unfoldable pub reached : Result ℕ Refusal → Memory → Result Walked Refusal
 reached (Ok next) m = Ok (walked_to next m.t m.n)
 reached (Err e) m = Err e
+
+-- what a reading within other bytes answers, and leaves of text and nodes
+pub record Read : Type 0 where
+  pub answer : Result Walked Refusal
+  pub text : List ℕ
+  pub nodes : List ℕ
+
+-- It is of a root. The reading that checks stores nothing, and the places past the descriptor are told in both.
+unfoldable pub reading : Bool → Got (Tree (List ℕ)) → (tx : List ℕ) (t : ℕ) (nd : List ℕ) (n : ℕ) → Read
+reading check (Err e) tx t nd n = record { answer = Err e; text = tx; nodes = nd }
+reading check (Ok (tr, next)) tx t nd n =
+    record {
+      answer = Ok (walked_to next (t + length (texts tr)) (n + size tr));
+      text = pick check tx (stored_as tr tx t nd n (0, 0) 0).text;
+      nodes = pick check nd (stored_as tr tx t nd n (0, 0) 0).nodes;
+    }

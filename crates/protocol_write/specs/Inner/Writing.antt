@@ -1,5 +1,5 @@
 -- Writing a message from a place of a buffer on, field by field, as the code has it.
-use Rattle.std.specs.Prelude.{Bool, true, false, ◌≡◌, refl, List, [], ◌∷◌, ℕ, zero, suc, ◌+◌, ◌/◌, ◌%◌, get_or, Some, None, Option}
+use Rattle.std.specs.Prelude.{Bool, true, false, ◌≡◌, refl, List, [], ◌∷◌, ℕ, zero, suc, ◌+◌, ◌/◌, ◌%◌, get_or, Result, Some, None, Option}
 use Rattle.varint.specs.Fixed.{put_le}
 use Rattle.varint.specs.Leb128.{put_by, put_u64}
 use Rattle.desc.specs.Emitting.{Pen, put_bytes, put_number, put_name}
@@ -17,8 +17,9 @@ use Rattle.protocol.specs.declared.message.Message.TheVariants as Msg
 use Rattle.protocol.specs.declared.message.Mode.{Mode}
 use Rattle.protocol.specs.declared.message.RowKind.{RowKind}
 use Rattle.protocol.specs.declared.message.RowKind.TheVariants.{Claim, Id, Predicate, Step, Pair}
+use Rattle.varint.specs.declared.error.Refusal.{Refusal}
 use Rattle.varint.specs.declared.text.Span.{Span}
-use Rattle.protocol_write.specs.Inner.Checking.{value_root}
+use Rattle.protocol_write.specs.Inner.Checking.{value_root, size_if}
 use Rattle.protocol_write.specs.declared.write.Writer.{Writer}
 
 -- where a writer stands
@@ -93,6 +94,11 @@ put_rows kind limit tx rs nd (suc n) r s = put_rows kind limit tx rs nd n (r + w
 -- a count and so many rows
 unfoldable pub put_counted : RowKind → ℕ → List ℕ → List ℕ → List ℕ → ℕ → Pen → Pen
 put_counted kind limit tx rs nd count s = put_rows kind limit tx rs nd count 0 (put_number count s)
+
+-- A check of so many rows tells the place after them, where the gauge has passed what stands before; or why they may not be written.
+abbrev pub Sizes : RowKind → ℕ → Result (Unit {0}) Refusal → Writer → Result ℕ Refusal → Type 0
+Sizes kind count verdict gauge x =
+    x ≡ size_if verdict (put_counted kind gauge.lent.now.limit gauge.lent.now.text.now gauge.lent.now.rows.now gauge.lent.now.nodes.now count (pen gauge)).place
 
 -- Messages
 

@@ -14,5 +14,5 @@ returns c =
     let k₀ = c.root-2.ensures.kept.0 in
     let k₁ = c.root-2.ensures.kept.1 in
     let z = c.if-check.false in
-    let h = reads_storing (desc a.limit a.limit a.s.now a.at) a.text.now a.t a.nodes.now a.n _ _ _ _ c.root-2.ensures.read in
+    let h = reads_storing (desc a.limit a.limit a.s.now a.at) a.text.now a.t a.nodes.now a.n _ _ _ _ (c.requires.again z) c.root-2.ensures.read in
     search rules
