@@ -162,14 +162,14 @@ impl Receiver {
     }
 
     // Opens the receiver over a kind table and a hold, and clears the hold; or all stays as it was.
-    #[tactic(auto, unfolding(crate::specs::Offering::opens), using(crate::proofs::ReceiverSteps::cleared))]
+    #[tactic(auto, unfolding(crate::specs::Offering::opens), using(crate::proofs::ReceiverSteps::cleared, varint::proofs::StoreLaws::copied_whole))]
     pub fn open(&mut self, table: &[u8], hold: &mut [u8]) -> Result<(), Refusal>
         ensures { record { opening = result; receiver = self.new; hold = hold.new } ≡ opens self.old table.now hold.old }
     {
         if table.len() != 256 {
             return Err(Refusal::BadKindTable(table.len() as u64));
         }
-        self.table.copy_from_slice(table);
+        copy_bytes(table, 0, 256, &mut self.table, 0); // `copy_from_slice` would be a call of C's `memmove`
         self.progress = Progress::start(hold.len());
         fill_from(hold, 0, 0);
         Ok(())

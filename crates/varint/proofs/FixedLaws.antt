@@ -9,7 +9,7 @@ use lib.Arith.{mod-mul}
 use lib.Dec.{ltb, lit<}
 use lib.ListN.{length, drop, length-append, length-drop}
 use lib.Seq.{length-take-le}
-use borrow.Author.Tests.{le-ltb, ltb-false}
+use borrow.Author.Tests.{le-ltb, lt-ltb, ltb-true, ltb-false}
 use Rattle.varint.specs.Fixed.{le, put_le, get_le}
 use Rattle.varint.specs.RoundTrips.{Bytes}
 use Rattle.varint.specs.Stores.{part}
@@ -92,6 +92,10 @@ pub get_le_value : (w : ℕ) (s : List ℕ) (at : ℕ) → w ≤ length s - at �
 unfolding get_le
 get_le_value w s at h = rw (le-ltb (length s - at) w h)
 
+pub get_le_short : (w : ℕ) (s : List ℕ) (at : ℕ) → length s - at < w → get_le w s at ≡ Err UnexpectedEof
+unfolding get_le
+get_le_short w s at h = rw (lt-ltb (length s - at) w h)
+
 apart : {X : Type 0} {r : Refusal} {n next : ℕ} → Err r ≡ got n next → X
 apart e = never cc
 
@@ -114,6 +118,15 @@ get_le_got w s at {b} {q} e = test (ltb (length s - at) w) (λ t. no_got (rw t a
 pub get_le_bad : (w : ℕ) (s : List ℕ) (at : ℕ) {r : Refusal} → taken w s at ≡ Err r → get_le w s at ≡ Err r
 unfolding get_le
 get_le_bad w s at {r} e = test (ltb (length s - at) w) (λ t. let k : UnexpectedEof ≡ r = bad_of (rw t at e) in rw (t, k)) (λ t. no_got (sym (rw t at e)))
+
+-- only a list that is too short is refused
+pub get_le_refused : (w : ℕ) (s : List ℕ) (at : ℕ) (r : Refusal) → get_le w s at ≡ Err r → length s - at < w
+unfolding get_le
+get_le_refused w s at r e =
+    pick_cases (λ (x : Got ℕ). x ≡ Err r → length s - at < w) (ltb (length s - at) w)
+    (λ t f. ltb-true (length s - at) w t)
+    (λ _ f. apart (sym f))
+    e
 
 pub get_le_ends : (w : ℕ) (s : List ℕ) (at n next : ℕ) → at ≤ length s → get_le w s at ≡ Ok (n, next)
     → (next ≡ at + w) × (next ≤ length s)
@@ -149,3 +162,14 @@ get_le_halves v w s at a m b next e f =
     let q : at + (v + w) ≡ next = omega arith in
     get_le_value (v + w) s at room
     ∙ rw (part_add, p, le_append (part s at v) (part s m w), x.size, q) (rw (x.value, y.value))
+
+-- where a half is short, the whole is
+pub get_le_first_short : (v w : ℕ) (s : List ℕ) (at : ℕ) (r : Refusal) → get_le v s at ≡ Err r
+    → get_le (v + w) s at ≡ Err UnexpectedEof
+get_le_first_short v w s at r e = get_le_short (v + w) s at (omega (arith, get_le_refused v s at r e))
+
+pub get_le_second_short : (v w : ℕ) (s : List ℕ) (at a m : ℕ) (r : Refusal) → get_le v s at ≡ Ok (a, m) → get_le w s m ≡ Err r
+    → get_le (v + w) s at ≡ Err UnexpectedEof
+get_le_second_short v w s at a m r e f =
+    let x = get_le_field v s at a m e in
+    get_le_short (v + w) s at (omega (arith, get_le_refused w s m r f))

@@ -2,11 +2,12 @@
 -- for each way to build a format.
 use mathlib.Core.Path.{◌≡◌, ◌∙◌, ap}
 use mathlib.Core.List.{List}
-use Prim.Native.Nat.{ℕ, zero, suc}
-use Rattle.varint.specs.Formats.{Format, text, name, ◌⊗◌, named, counted}
+use Prim.Native.Nat.{ℕ, zero, suc, ◌^◌, ◌<◌}
+use Rattle.varint.specs.Formats.{Format, varint, fixed, text, name, ◌⊗◌, named, counted}
 use Rattle.varint.specs.RoundTrips.{Bytes, TextOk, All, ListOk}
 use Rattle.varint.specs.Texts.{get_name}
 use Rattle.varint.specs.Utf8.{utf8}
+use Rattle.varint.proofs.FixedLaws.{get_le_bound}
 use Rattle.varint.proofs.FormatParts.{pair_went, named_went, times, times_zero, times_suc, times_length, counted_went, text_at, text_got}
 use Rattle.varint.proofs.VarintLaws.{get_bound}
 use Rattle.std.specs.Prelude.{Ok}
@@ -17,6 +18,12 @@ pub record Gives {A : Type 0} (f : Format A) (P : A → Type 0) : Type 0 where
 
 pub any_gives : {A : Type 0} (f : Format A) → Gives f (λ a. Unit {0})
 any_gives f = record { gives = λ s at a q B e. tt }
+
+pub varint_gives : Gives varint (λ n. n < 2 ^ 64)
+varint_gives = record { gives = λ s at n q B e. get_bound s at n q e }
+
+pub fixed_gives : (w : ℕ) → Gives (fixed w) (λ n. n < 256 ^ w)
+fixed_gives w = record { gives = λ s at n q B e. get_le_bound w s at n q B e }
 
 pub text_gives : Gives text TextOk
 text_gives =

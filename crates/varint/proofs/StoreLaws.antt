@@ -22,6 +22,12 @@ part_cons s from zero h p = absurd (omega arith)
 part_cons s from (suc n) h p = rw (drop-cons s from 0 h, sub-one, add-one)
 
 -- no part starts at or past the end
+pub part_none : (s : List ℕ) (from n : ℕ) → n ≤ 0 → part s from n ≡ []
+unfolding part
+part_none s from zero h = refl
+part_none s from (suc n) h = absurd (omega arith)
+
+-- no part starts at or past the end
 pub part_past : (s : List ℕ) (from n : ℕ) → length s ≤ from → part s from n ≡ []
 unfolding part
 part_past s from zero h = refl
@@ -60,6 +66,14 @@ unfolding part
 part_seam x y z = rw (drop-append_seam x (y ++ z)) (take-append_seam y z)
 
 -- Runs of stores
+
+-- the element at place j of a part, and what follows it
+pub part_step : (s : List ℕ) (from n j : ℕ) → from + n ≤ length s → j < n
+    → part s (from + j) (n - j) ≡ get_or s (from + j) 0 ∷ part s (from + (j + 1)) (n - (j + 1))
+part_step s from n j h l =
+    let e : from + j + 1 ≡ from + (j + 1) = omega arith in
+    let f : n - j - 1 ≡ n - (j + 1) = omega arith in
+    part_cons s (from + j) (n - j) (omega arith) (omega arith) ∙ rw (e, f)
 
 pub sets_cons : (d : List ℕ) (at : ℕ) (x : List ℕ) (a : ℕ) (y : List ℕ) → x ≡ a ∷ y → sets d at x ≡ sets (set d at a) (at + 1) y
 sets_cons d at x a y e = rw (e, add-one)
@@ -231,3 +245,12 @@ sets_part x d at h =
 pub sets_from : (x d : List ℕ) (at : ℕ) {part : List ℕ} → at ≤ length d → part ≡ sets (mid_of at (length d - at) d) 0 x
     → put_mid at (length d - at) d part ≡ sets d at x
 sets_from x d at h e = rw e (sets_part x d at h)
+
+-- a list that is stored over one as long
+pub copied_whole : (x z : List ℕ) (n : ℕ) → length x ≡ n → length z ≡ n → sets z 0 (part x 0 n) ≡ x
+unfolding part
+copied_whole x z n e f =
+    let t : take n x ≡ x = take_all n x (omega arith) in
+    let l : 0 + length x ≤ length z = omega arith in
+    let d : drop (0 + length x) z ≡ [] = drop_of_length-le z {i = 0 + length x} (omega arith) in
+    rw t (sets-eq x z 0 l ∙ rw d (append-nil x))

@@ -139,3 +139,8 @@ not_utf8 s n = test (utf8 s) (λ h. absurd (n (is_utf8 s h))) (λ h. h)
 pub ok_utf8 : {A E : Type 0} (s : List ℕ) (P : A → Type 0) (r : Result A E) → MatchResult r (λ t. P t × IsUtf8 s) (λ _. ¬ (IsUtf8 s)) → is_ok r ≡ utf8 s
 ok_utf8 s P (Ok t) h = sym (utf8_is s h.1)
 ok_utf8 s P (Err e) h = sym (not_utf8 s h)
+
+-- and so does the one that tells more of a fault
+pub ok_utf8_told : {A E : Type 0} (s : List ℕ) (P : A → Type 0) (Q : E → Type 0) (r : Result A E) → MatchResult r (λ t. P t × IsUtf8 s) (λ e. ¬ (IsUtf8 s) × Q e) → is_ok r ≡ utf8 s
+ok_utf8_told s P Q (Ok t) h = sym (utf8_is s h.1)
+ok_utf8_told s P Q (Err e) h = sym (not_utf8 s h.0)

@@ -2,3 +2,4 @@
 pub mod Again
 pub mod RunSteps
 pub mod Taking
+pub mod Utf8Steps

@@ -1,9 +1,11 @@
+use native.Mathlib.Omega.{arith}
 use mathlib.Core.Path.{sym, ◌∙◌}
-use Rattle.varint.proofs.Utf8Std.{utf8_ascii, ok_utf8}
+use lib.ListN.{length}
+use Rattle.varint.proofs.Utf8Laws.{utf8_end, ascii_passed}
 use Rattle.varint.proofs.utf8.is_text.Goals as goal
 
-pub returns-then-is_ascii : goal.returns-then-is_ascii
-returns-then-is_ascii c = c.if-is_ascii.true ∙ sym (utf8_ascii _ c.if-is_ascii.ensures.cases)
-
-pub returns-else-is_ascii : goal.returns-else-is_ascii
-returns-else-is_ascii c = c.is_ok.ensures.value ∙ ok_utf8 _ _ _ c.from_utf8.ensures
+pub returns-then-is_short_ascii : goal.returns-then-is_short_ascii
+returns-then-is_short_ascii c =
+    let s = c.args.s.now in
+    let all = ascii_passed s 0 (length s) (omega arith) (omega arith) (c.is_short_ascii.ensures c.if-is_short_ascii.true) in
+    sym (all.same ∙ utf8_end s (length s) (omega arith))
