@@ -138,8 +138,8 @@ fn tell_outcome(alloc: Global, outcome: Outcome) -> Answer {
 // Offers the pieces one after the other, each once.
 fn offer_pieces(request: &mut Request<'_>, receiver: &mut Receiver, hold: &mut [u8]) -> Answer {
     let alloc = request.alloc;
-    let mut lent = Lent::take(request)?;
-    let count: u64 = request.number()?;
+    let mut lent = Lent::take_some(request)?;
+    let count = request.number_or_none()?;
     let mut told = String::new(alloc);
     for _ in 0..count {
         let piece = request.bytes()?;

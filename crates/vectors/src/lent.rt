@@ -20,6 +20,15 @@ impl Lent {
             nodes: request.number_room()?,
         })
     }
+
+    // What an offer is lent. It is never refused: of more than an answer has room for there is less than the request's words say.
+    pub fn take_some(request: &mut Request<'_>) -> Result<Lent, Fault> {
+        Ok(Lent {
+            text: request.some_text()?,
+            rows: request.some_numbers()?,
+            nodes: request.some_numbers()?,
+        })
+    }
 }
 
 // An answer has all of it.

@@ -8,14 +8,19 @@ use listing::{BYTES, LAST_LINE, Last, NUMBERS};
 use std::alloc::{AllocError, Global};
 use varint::error::Code;
 
-// The lines of a run in pieces of a size, over as much memory as the lister lends. A table that is too short has no run after it; pieces of no bytes have no lines.
+// A function of its own, since the prover does not write so long an array out.
+fn buffer() -> [u8; BYTES] {
+    [0; BYTES]
+}
+
+// The lines of a run in pieces of a size, over as much memory as the lister lends, which is fixed: taken from the heap, it would come from the system anew for each line. A table that is too short has no run after it; pieces of no bytes have no lines.
 fn list_run(alloc: Global, size: usize, input: &[u8]) -> Result<Vec<u8>, AllocError> {
     let (table, run) = input.split_at(input.len().min(256));
-    let mut hold = vec![in alloc; 0u8; BYTES]?;
-    let mut text = vec![in alloc; 0u8; BYTES]?;
-    let mut rows = vec![in alloc; 0u64; NUMBERS]?;
-    let mut nodes = vec![in alloc; 0u64; NUMBERS]?;
-    let mut page = vec![in alloc; 0u8; BYTES]?;
+    let mut hold = buffer();
+    let mut text = buffer();
+    let mut rows = [0; NUMBERS];
+    let mut nodes = [0; NUMBERS];
+    let mut page = buffer();
     let mut lines = Vec::new(alloc);
     let mut receiver = Receiver::unopened();
     let mut last = match receiver.open(table, &mut hold) {

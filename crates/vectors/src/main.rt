@@ -18,8 +18,24 @@ mod varint_ops;
 
 use replay::{MAX_LINE, replay_line};
 use std::fs::File;
-use std::io::{BufRead, BufReader, Result};
+use std::io::{BufRead, BufReader, Read, Result, Take};
 use std::rt::Files;
+
+// The next line, without its end; of one that has more than `MAX_LINE` bytes so many and one more, so that no line takes more memory. False where the file has
+// no more lines.
+fn next_line<R: BufRead>(file: &mut Take<R>, line: &mut Vec<u8>) -> Result<bool> {
+    line.clear();
+    file.set_limit(MAX_LINE as u64 + 1);
+    if file.read_until(b'\n', line)? == 0 {
+        return Ok(false);
+    }
+    if line.ends_with(b"\n") {
+        line.pop();
+    } else if line.len() > MAX_LINE {
+        file.get_mut().skip_until(b'\n')?;
+    }
+    Ok(true)
+}
 
 fn replay_file<R: Files + Print + AllocGlobal>(rt: &R, name: &str) -> Result<()> {
     let Ok(file) = File::open(rt, name) else {
@@ -28,8 +44,13 @@ fn replay_file<R: Files + Print + AllocGlobal>(rt: &R, name: &str) -> Result<()>
     let alloc = rt.alloc();
     let mut count = 0u64;
     let mut differ = 0u64;
-    for line in BufReader::new(alloc, file)?.split(alloc, b'\n') {
-        let line = line?;
+    let mut file = BufReader::new(alloc, file)?.take(0);
+    let mut line = Vec::new(alloc);
+    // Nothing says that a file ends, so the lines are counted up to a number that no run uses up.
+    for _ in 0..u64::MAX {
+        if !next_line(&mut file, &mut line)? {
+            break;
+        }
         // A line that is too long differs, whatever it starts with.
         if line.is_empty() || (line.len() <= MAX_LINE && line.starts_with(b"#")) {
             continue;

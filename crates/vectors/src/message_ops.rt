@@ -5,7 +5,7 @@
 use crate::answer::{Answer, tell_result, tell_written};
 use crate::fields::{fields_of, message_of};
 use crate::lent::Lent;
-use crate::request::{Request, clip};
+use crate::request::Request;
 use desc::write;
 
 pub fn decode_desc(request: &mut Request<'_>) -> Answer {
@@ -17,7 +17,7 @@ pub fn decode_desc(request: &mut Request<'_>) -> Answer {
 }
 
 pub fn decode(request: &mut Request<'_>) -> Answer {
-    let entry = clip(request.number()?, u8::MAX);
+    let entry = request.number()?;
     let payload = request.bytes()?;
     let mut lent = Lent::take(request)?;
     let message = protocol::decode(

@@ -10,6 +10,12 @@ const MAX_BYTES: usize = 16384;
 // And so many numbers, which are more than the 4,096 ids that a fetch may have.
 const MAX_NUMBERS: usize = 4100;
 
+// An offer is lent so many bytes of text at most.
+const MAX_TEXT: usize = 4096;
+
+// A number to lend: each of its bytes is A5.
+const DIRTY: u64 = 0xa5a5_a5a5_a5a5_a5a5;
+
 #[derive(Drop)]
 pub struct Request<'a> {
     pub alloc: Global,
@@ -116,7 +122,24 @@ impl<'a> Request<'a> {
     // Numbers to lend, of which each byte is A5 too.
     pub fn number_room(&mut self) -> Result<Vec<u64>, Fault> {
         let len = self.length(MAX_NUMBERS)?;
-        Ok(vec![in self.alloc; 0xa5a5_a5a5_a5a5_a5a5; len]?)
+        Ok(vec![in self.alloc; DIRTY; len]?)
+    }
+
+    // A number, which is 0 where the request has ended.
+    pub fn number_or_none(&mut self) -> Result<usize, Fault> {
+        self.words.next().map_or(Ok(0), parse)
+    }
+
+    // Text to lend to an offer: as much as a word says, but at most so much.
+    pub fn some_text(&mut self) -> Result<Vec<u8>, Fault> {
+        let len = self.number_or_none()?;
+        Ok(vec![in self.alloc; 0xa5; len.min(MAX_TEXT)]?)
+    }
+
+    // Numbers to lend to an offer, likewise.
+    pub fn some_numbers(&mut self) -> Result<Vec<u64>, Fault> {
+        let len = self.number_or_none()?;
+        Ok(vec![in self.alloc; DIRTY; len.min(MAX_NUMBERS)]?)
     }
 
     pub fn end(&mut self) -> Result<(), Fault> {
